@@ -1,0 +1,9 @@
+pub mod Values
+pub mod Ops
+pub mod Narrowing
+pub mod Roots
+pub mod Casting
+pub mod Rounding
+pub mod Exactly
+pub mod Theorems
+pub mod Constants

@@ -1,0 +1,4 @@
+pub mod Floats
+pub mod Fields
+pub mod Steps
+pub mod Constants

@@ -1,0 +1,4 @@
+pub mod Outcome
+pub mod Version
+pub mod Color
+pub mod Passed

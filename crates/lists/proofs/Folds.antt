@@ -1,0 +1,93 @@
+-- Laws of `count`, `range`, `folded`, `sumTo` and `flatMap`. Assumes nothing.
+use mathlib.Core.Path.{_≡_, refl, sym, _∙_, ap, subst}
+use mathlib.Core.Bool.{Bool, true, false}
+use mathlib.Core.List.{List, [], _∷_, _++_, append-assoc, append-nil}
+use Prim.Native.Nat.{ℕ, zero, suc, _+_, _-_, _≤_, _<_}
+use native.Mathlib.Nat.{add-zero, add-suc}
+use native.Mathlib.Numerals.{add-one}
+use native.Mathlib.Omega.{arith}
+use lib.Dec.{leb, eqb}
+use borrow.Author.Tests.{leb-true, leb-false, eqb-true, eqb-false}
+use Rattle.lists.specs.Lists.{Each, Some, count, range, folded, sumTo, flatMap}
+use Rattle.lists.proofs.Filters.{each-append, some-left, some-right}
+
+pub sum-more : (f : ℕ → ℕ) (n s : ℕ) → s ≡ sumTo n f → s + f n ≡ sumTo (n + 1) f
+unfolding sumTo
+sum-more f n s e = rw (add-one, e)
+
+-- ---- numbers in a row
+
+-- the first of those from k on below n
+pub range-first : (k n : ℕ) → k < n → range k n ≡ k ∷ range (k + 1) n
+unfolding count
+range-first k n h = let e : n - k ≡ suc (n - (k + 1)) = omega arith in rw (e, add-one)
+
+pub range-none : (k n : ℕ) → n ≤ k → range k n ≡ []
+unfolding count
+range-none k n h = let e : n - k ≡ 0 = omega arith in rw e
+
+count-last : (k n : ℕ) → count k (suc n) ≡ count k n ++ ((k + n) ∷ [])
+unfolding count
+count-last k zero = rw (add-zero k)
+count-last k (suc n) = ap (λ (l : List ℕ). k ∷ l) (count-last (suc k) n ∙ ap (λ (m : ℕ). count (suc k) n ++ (m ∷ [])) (let e : suc k + n ≡ k + suc n = omega arith in e))
+
+pub range-more : (a b : ℕ) → a ≤ b → range a (suc b) ≡ range a b ++ (b ∷ [])
+range-more a b h =
+    let e : suc b - a ≡ suc (b - a) = omega arith in
+    let g : a + (b - a) ≡ b = omega arith in
+    ap (count a) e ∙ count-last a (b - a) ∙ ap (λ (m : ℕ). range a b ++ (m ∷ [])) g
+
+-- ---- a loop that folds: w is the whole fold, s what there is of it before k
+
+pub folded-append : {S A : Type 0} (g : S → A → S) (s : S) (xs ys : List A) → folded g s (xs ++ ys) ≡ folded g (folded g s xs) ys
+unfolding folded
+folded-append g s [] ys = refl
+folded-append g s (x ∷ xs) ys = folded-append g (g s x) xs ys
+
+module _ {S : Type 0} (g : S → ℕ → S) where
+  -- one turn of it
+  pub fold-more : (w s r : S) (k n : ℕ) → k < n → w ≡ folded g s (range k n) → r ≡ g s k → w ≡ folded g r (range (k + 1) n)
+  unfolding folded
+  fold-more w s r k n h e q = e ∙ ap (folded g s) (range-first k n h) ∙ ap (λ z. folded g z (range (k + 1) n)) (sym q)
+
+  -- and its end
+  pub fold-end : (w s : S) (k n : ℕ) → n ≤ k → w ≡ folded g s (range k n) → w ≡ s
+  unfolding folded
+  fold-end w s k n h e = e ∙ ap (folded g s) (range-none k n h)
+
+-- ---- one list after the other
+module _ {A B : Type 0} (f : A → List B) where
+  pub flatMap-append : (xs ys : List A) → flatMap f (xs ++ ys) ≡ flatMap f xs ++ flatMap f ys
+  unfolding flatMap
+  flatMap-append [] ys = refl
+  flatMap-append (x ∷ xs) ys = rw (flatMap-append xs ys) (sym (append-assoc (f x) (flatMap f xs) (flatMap f ys)))
+
+pub flatMap-none : {B : Type 0} (f : ℕ → List B) (a b : ℕ) → b ≤ a → flatMap f (range a b) ≡ []
+unfolding flatMap
+flatMap-none f a b h = ap (flatMap f) (range-none a b h)
+
+pub flatMap-more : {B : Type 0} (f : ℕ → List B) (a b : ℕ) → a ≤ b → flatMap f (range a (suc b)) ≡ flatMap f (range a b) ++ f b
+unfolding flatMap
+flatMap-more f a b h = ap (flatMap f) (range-more a b h) ∙ flatMap-append f (range a b) (b ∷ []) ∙ ap (λ l. flatMap f (range a b) ++ l) (append-nil (f b))
+
+pub each-flatMap : {B : Type 0} (P : B → Type 0) (f : ℕ → List B) (a b : ℕ) → ((x : ℕ) → a ≤ x → x < b → Each P (f x)) → Each P (flatMap f (range a b))
+each-flatMap P f a zero h = subst (Each P) (sym (flatMap-none f a 0 (omega arith))) tt
+each-flatMap P f a (suc b) h = go (leb a b) refl (each-flatMap P f a b (λ x m l. h x m (omega arith)))
+  where
+    go : (v : Bool) → leb a b ≡ v → Each P (flatMap f (range a b)) → Each P (flatMap f (range a (suc b)))
+    go true m e =
+        let l = leb-true a b m in
+        subst (Each P) (sym (flatMap-more f a b l)) (each-append P (flatMap f (range a b)) (f b) e (h b l (omega arith)))
+    go false m e = let l = leb-false a b m in subst (Each P) (sym (flatMap-none f a (suc b) (omega arith))) tt
+
+pub some-flatMap : {B : Type 0} (P : B → Type 0) (f : ℕ → List B) (a b x : ℕ) → a ≤ x → x < b → Some P (f x) → Some P (flatMap f (range a b))
+some-flatMap P f a zero x m l h = absurd (omega arith)
+some-flatMap P f a (suc b) x m l h =
+    rw (flatMap-more f a b (omega arith)) (go (eqb x b) refl (λ g. some-flatMap P f a b x m g h))
+  where
+    go : (v : Bool) → eqb x b ≡ v → (x < b → Some P (flatMap f (range a b))) → Some P (flatMap f (range a b) ++ f b)
+    go true e k = some-right P (flatMap f (range a b)) (f b) (subst (λ (y : ℕ). Some P (f y)) (eqb-true x b e) h)
+    go false e k = some-left P (flatMap f (range a b)) (f b) (k (below x b (eqb-false x b e) l))
+      where
+        below : (x b : ℕ) → (x ≡ b → ⊥) → x < suc b → x < b
+        below x b n l = omega arith

@@ -1,0 +1,4 @@
+pub mod Numbers
+pub mod Tabulate
+pub mod Filters
+pub mod Folds
