@@ -19,6 +19,7 @@ pub enum Found {
 
 impl Version {
     pub const MIN: Version = Version(1);
+
     pub const MAX: Version = Version(64);
     // The largest version of a symbol with finders.
     pub const MAX_CLASSIC: Version = Version(32);
