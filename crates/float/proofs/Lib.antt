@@ -1,3 +1,4 @@
+pub mod Signs
 pub mod Values
 pub mod Ops
 pub mod Narrowing
@@ -7,3 +8,4 @@ pub mod Rounding
 pub mod Exactly
 pub mod Theorems
 pub mod Constants
+pub mod Order
