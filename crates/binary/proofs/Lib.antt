@@ -1,3 +1,4 @@
 pub mod Bits
 pub mod Runs
 pub mod Packed
+pub mod Pass
