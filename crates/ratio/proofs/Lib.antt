@@ -1,0 +1,2 @@
+pub mod Tolerance
+pub mod Matches
