@@ -7,6 +7,8 @@ use native.Mathlib.Nat.{add-zero, add-suc}
 use native.Mathlib.Numerals.{add-one}
 use native.Mathlib.Omega.{arith}
 use lib.Dec.{leb, eqb}
+use lib.ListN.{length, take, getD, length-append}
+use lib.Seq.{take-suc}
 use borrow.Author.Tests.{leb-true, leb-false, eqb-true, eqb-false}
 use Rattle.lists.specs.Lists.{Each, Some, count, range, folded, sumTo, flatMap}
 use Rattle.lists.proofs.Filters.{each-append, some-left, some-right}
@@ -61,6 +63,17 @@ module _ {A B : Type 0} (f : A → List B) where
   unfolding flatMap
   flatMap-append [] ys = refl
   flatMap-append (x ∷ xs) ys = rw (flatMap-append xs ys) (sym (append-assoc (f x) (flatMap f xs) (flatMap f ys)))
+
+  -- the first p + 1 of a list
+  pub flatMap-take : (xs : List A) (p : ℕ) (d : A) → p < length xs → flatMap f (take (p + 1) xs) ≡ flatMap f (take p xs) ++ f (getD xs p d)
+  unfolding flatMap
+  flatMap-take xs p d h = rw (add-one, take-suc xs p d) (flatMap-append (take p xs) (getD xs p d ∷ []) ∙ ap (λ l. flatMap f (take p xs) ++ l) (append-nil (f (getD xs p d))))
+
+  -- where each gives one at most
+  pub flatMap-few : ((x : A) → length (f x) ≤ 1) → (xs : List A) → length (flatMap f xs) ≤ length xs
+  unfolding flatMap
+  flatMap-few h [] = omega arith
+  flatMap-few h (x ∷ xs) = rw (length-append (f x) (flatMap f xs)) (omega (arith, h x, flatMap-few h xs))
 
 pub flatMap-none : {B : Type 0} (f : ℕ → List B) (a b : ℕ) → b ≤ a → flatMap f (range a b) ≡ []
 unfolding flatMap

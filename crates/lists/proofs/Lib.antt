@@ -2,3 +2,4 @@ pub mod Numbers
 pub mod Tabulate
 pub mod Filters
 pub mod Folds
+pub mod Padded

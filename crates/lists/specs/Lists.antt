@@ -3,7 +3,7 @@ use Prim.Native.Nat.{ℕ, zero, suc, _+_, _-_}
 use mathlib.Core.Bool.{Bool, cond}
 use mathlib.Core.List.{List, [], _∷_, _++_}
 use mathlib.Core.Logic.{_⊎_}
-use lib.ListN.{drop}
+use lib.ListN.{length, drop, replicate}
 
 -- f 0, f 1, .., f (n - 1)
 unfoldable pub tabulate : {A : Type 0} → ℕ → (ℕ → A) → List A
@@ -13,6 +13,10 @@ tabulate (suc n) f = tabulate n f ++ (f n ∷ [])
 -- d with its first n elements replaced by f 0, .., f (n - 1)
 abbrev pub filled : {A : Type 0} → ℕ → (ℕ → A) → List A → List A
 filled n f d = tabulate n f ++ drop n d
+
+-- a list with z after it, up to n places: a table that holds the list
+abbrev pub padded : {A : Type 0} → ℕ → A → List A → List A
+padded n z xs = xs ++ replicate (n - length xs) z
 
 -- n numbers from k on
 unfoldable pub count : ℕ → ℕ → List ℕ

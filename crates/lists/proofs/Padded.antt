@@ -1,0 +1,25 @@
+-- Laws of `padded`. Assumes nothing.
+use mathlib.Core.Path.{_≡_, refl, sym, ap, _∙_}
+use mathlib.Core.List.{List, [], _∷_, _++_}
+use Prim.Native.Nat.{ℕ, suc, _+_, _-_, _≤_, _<_}
+use native.Mathlib.Omega.{arith}
+use lib.ListN.{length, take, getD, set, replicate, length-append, length-replicate, List·getD-append}
+use lib.Seq.{take-at, set-at, append-snoc}
+use Rattle.lists.specs.Lists.{padded}
+
+module _ {A : Type 0} (n : ℕ) (z : A) where
+  pub length-padded : (xs : List A) → length xs ≤ n → length (padded n z xs) ≡ n
+  length-padded xs h = simp (length-append, length-replicate) (omega arith)
+
+  -- the list that the table holds
+  pub take-padded : (xs : List A) → take (length xs) (padded n z xs) ≡ xs
+  take-padded xs = take-at xs _ (length xs) refl
+
+  pub getD-padded : (xs : List A) (i : ℕ) (d : A) → i < length xs → getD (padded n z xs) i d ≡ getD xs i d
+  getD-padded xs i d h = List·getD-append xs _ d i h
+
+  -- one more is stored in the first free place
+  pub padded-more : (xs : List A) (x : A) → length xs < n → set (padded n z xs) (length xs) x ≡ padded n z (xs ++ (x ∷ []))
+  padded-more xs x h =
+      let e : n - length xs ≡ suc (n - (length xs + 1)) = omega arith in
+      rw (e, length-append xs (x ∷ [])) (set-at xs z (replicate (n - (length xs + 1)) z) x (length xs) refl ∙ sym (append-snoc xs x (replicate (n - (length xs + 1)) z)))
