@@ -1,14 +1,12 @@
 -- Laws of `Each`, `Some`, `those` and `howMany`. Assumes nothing.
-use mathlib.Core.Path.{_≡_, refl, sym, _∙_, ap, subst}
-use mathlib.Core.Logic.{_⊎_, inl, inr}
-use mathlib.Core.Bool.{Bool, true, false, not, _&&_, _||_, cond, true≢false}
+use mathlib.Core.Path.{_≡_, refl, sym, ap, subst}
+use mathlib.Core.Logic.{inl, inr}
+use mathlib.Core.Bool.{Bool, true, false, cond, true≢false}
 use mathlib.Core.List.{List, [], _∷_, _++_, append-assoc, append-nil}
 use Prim.Native.Nat.{ℕ, zero, suc, _+_, _≤_, _<_}
 use native.Mathlib.Omega.{arith}
-use lib.Dec.{leb, eqb}
-use lib.ListN.{length, length-append}
-use borrow.Author.Tests.{le-leb, lt-leb, leb-true, eqb-true, eqb-false}
-use Rattle.lists.specs.Lists.{Each, Some, those, howMany, flatMap, count, range}
+use lib.ListN.{length, getD}
+use Rattle.lists.specs.Lists.{Each, Some, those, howMany, count}
 
 -- ---- what holds of each
 module _ {A : Type 0} where
@@ -151,6 +149,11 @@ module _ {A : Type 0} where
   each-at P [] t h s = absurd s
   each-at P (x ∷ xs) t h (inl e) = subst P (sym e) (h .0)
   each-at P (x ∷ xs) t h (inr s) = each-at P xs t (h .1) s
+
+  pub each-getD : (P : A → Type 0) (xs : List A) (i : ℕ) (d : A) → Each P xs → i < length xs → P (getD xs i d)
+  each-getD P [] i d h l = absurd (omega arith)
+  each-getD P (x ∷ xs) zero d h l = h .0
+  each-getD P (x ∷ xs) (suc i) d h l = each-getD P xs i d (h .1) (omega arith)
 
   pub howMany-all : (xs : List A) → howMany (λ (x : A). true) xs ≡ length xs
   unfolding howMany

@@ -1,11 +1,17 @@
--- Laws of `padded`. Assumes nothing.
-use mathlib.Core.Path.{_≡_, refl, sym, ap, _∙_}
+-- Laws of tables that hold a list, and of reading them. Assumes nothing.
+use mathlib.Core.Path.{_≡_, refl, sym, _∙_}
 use mathlib.Core.List.{List, [], _∷_, _++_}
-use Prim.Native.Nat.{ℕ, suc, _+_, _-_, _≤_, _<_}
+use Prim.Native.Nat.{ℕ, zero, suc, _+_, _-_, _≤_, _<_}
 use native.Mathlib.Omega.{arith}
 use lib.ListN.{length, take, getD, set, replicate, length-append, length-replicate, List·getD-append}
 use lib.Seq.{take-at, set-at, append-snoc}
 use Rattle.lists.specs.Lists.{padded}
+
+-- within a list the default is not read
+pub getD-any : {A : Type 0} (xs : List A) (i : ℕ) (d e : A) → i < length xs → getD xs i d ≡ getD xs i e
+getD-any [] i d e h = absurd (omega arith)
+getD-any (x ∷ xs) zero d e h = refl
+getD-any (x ∷ xs) (suc i) d e h = getD-any xs i d e (omega arith)
 
 module _ {A : Type 0} (n : ℕ) (z : A) where
   pub length-padded : (xs : List A) → length xs ≤ n → length (padded n z xs) ≡ n
@@ -15,8 +21,8 @@ module _ {A : Type 0} (n : ℕ) (z : A) where
   pub take-padded : (xs : List A) → take (length xs) (padded n z xs) ≡ xs
   take-padded xs = take-at xs _ (length xs) refl
 
-  pub getD-padded : (xs : List A) (i : ℕ) (d : A) → i < length xs → getD (padded n z xs) i d ≡ getD xs i d
-  getD-padded xs i d h = List·getD-append xs _ d i h
+  pub getD-padded : (xs : List A) (i : ℕ) (d e : A) → i < length xs → getD (padded n z xs) i d ≡ getD xs i e
+  getD-padded xs i d e h = List·getD-append xs _ d i h ∙ getD-any xs i d e h
 
   -- one more is stored in the first free place
   pub padded-more : (xs : List A) (x : A) → length xs < n → set (padded n z xs) (length xs) x ≡ padded n z (xs ++ (x ∷ []))
