@@ -1,16 +1,15 @@
 -- Laws of the bit picture. Assumes nothing.
-use mathlib.Core.Path.{_≡_, refl, sym, ap, _∙_}
-use mathlib.Core.Bool.{Bool, true, false, cond}
+use mathlib.Core.Path.{_≡_, refl, ap, _∙_}
+use mathlib.Core.Bool.{Bool, true, false}
 use mathlib.Core.List.{List}
 use Prim.Native.Nat.{ℕ, zero, suc, _+_, _-_, _*_, _/_, _%_, _^_, _≤_, _<_}
 use native.Mathlib.Nat.{pow-suc, mod-eq-of-lt, zero-div}
 use native.Mathlib.Numerals.{add-one}
 use native.Mathlib.Omega.{arith}
-use lib.ListN.{length, getD, set, List·getD-eq-default}
+use lib.ListN.{length, getD, List·getD-eq-default}
 use lib.Dec.{eqb}
 use lib.Pow.{pow-mono}
 use borrow.Author.Tests.{eqb-true, eqb-false}
-use Rattle.lists.specs.Lists.{filled}
 use Rattle.lists.proofs.Tabulate.{filled-none, filled-step}
 use Rattle.binary.specs.Binary.{bit, darkBit, word, byteOf}
 use Rattle.binary.specs.Writing.{pushed, restAfter, bytesAfter, Written}

@@ -6,7 +6,6 @@ use Prim.Native.Nat.{ℕ, zero, suc, _+_, _-_, _*_, _/_, _%_, _^_, _<_}
 use native.Mathlib.Nat.{add-zero, add-suc, pow-zero, pow-succ', div-one, div-div-eq-div-mul}
 use native.Mathlib.Omega.{arith}
 use lib.ListN.{getD}
-use lib.Dec.{eqb}
 use Rattle.lists.specs.Lists.{filled}
 use Rattle.lists.proofs.Tabulate.{getD-tabulate, getD-filled}
 use Rattle.binary.specs.Binary.{bit, darkBit, word, byteOf, packed}
