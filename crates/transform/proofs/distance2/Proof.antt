@@ -1,0 +1,12 @@
+-- `transform::distance2` meets its contract. Assumes nothing.
+use mathlib.Core.Path.{refl}
+use Rattle.transform.specs.Apply.{distance2Of}
+use Rattle.transform.proofs.distance2.Statement.{statement}
+use Rattle.transform.proofs.distance2.Tie as tie
+
+returns : tie.Need-returns
+unfolding distance2Of
+returns c = refl
+
+pub distance2-spec : {M : Type 1} → statement M
+distance2-spec = tie.close (tie.spec returns)
