@@ -1,7 +1,7 @@
 -- Laws of `count`, `range`, `folded`, `sumTo` and `flatMap`. Assumes nothing.
 use mathlib.Core.Path.{_≡_, refl, sym, _∙_, ap, subst}
 use mathlib.Core.Bool.{Bool, true, false}
-use mathlib.Core.List.{List, [], _∷_, _++_, append-assoc, append-nil}
+use mathlib.Core.List.{List, [], _∷_, _++_, append-assoc, append-nil, map}
 use Prim.Native.Nat.{ℕ, zero, suc, _+_, _-_, _≤_, _<_}
 use native.Mathlib.Nat.{add-zero}
 use native.Mathlib.Numerals.{add-one}
@@ -38,6 +38,34 @@ range-more a b h =
     let e : suc b - a ≡ suc (b - a) = omega arith in
     let g : a + (b - a) ≡ b = omega arith in
     ap (count a) e ∙ count-last a (b - a) ∙ ap (λ (m : ℕ). range a b ++ (m ∷ [])) g
+
+pub length-count : (k n : ℕ) → length (count k n) ≡ n
+unfolding count
+length-count k zero = refl
+length-count k (suc n) = ap suc (length-count (suc k) n)
+
+each-count : (P : ℕ → Type 0) (k n : ℕ) → ((x : ℕ) → k ≤ x → x < k + n → P x) → Each P (count k n)
+unfolding count
+each-count P k zero h = tt
+each-count P k (suc n) h = (h k (omega arith) (omega arith), each-count P (suc k) n (λ x a b. h x (omega arith) (omega arith)))
+
+pub each-range : (P : ℕ → Type 0) (a b : ℕ) → ((x : ℕ) → a ≤ x → x < b → P x) → Each P (range a b)
+each-range P a b h = each-count P a (b - a) (λ x l m. h x l (omega arith))
+
+-- ---- f of each
+module _ {A B : Type 0} where
+  pub map-same : (f g : A → B) (xs : List A) → Each (λ (x : A). f x ≡ g x) xs → map f xs ≡ map g xs
+  map-same f g [] h = refl
+  map-same f g (x ∷ xs) h = rw (h .0, map-same f g xs (h .1))
+
+  pub each-of-map : (P : B → Type 0) (f : A → B) (xs : List A) → Each (λ (x : A). P (f x)) xs → Each P (map f xs)
+  each-of-map P f [] h = tt
+  each-of-map P f (x ∷ xs) h = (h .0, each-of-map P f xs (h .1))
+
+  pub folded-map : {S : Type 0} (g : S → B → S) (f : A → B) (s : S) (xs : List A) → folded g s (map f xs) ≡ folded (λ (u : S) (x : A). g u (f x)) s xs
+  unfolding folded
+  folded-map g f s [] = refl
+  folded-map g f s (x ∷ xs) = folded-map g f (g s (f x)) xs
 
 -- ---- a loop that folds: w is the whole fold, s what there is of it before k
 

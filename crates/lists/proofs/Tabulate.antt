@@ -35,6 +35,9 @@ module _ {A : Type 0} where
   unfolding tabulate
   filled-none f d = refl
 
+  pub filled-same : (n : ℕ) (f g : ℕ → A) (d : List A) → ((k : ℕ) → k < n → f k ≡ g k) → filled n f d ≡ filled n g d
+  filled-same n f g d h = ap (λ (l : List A). l ++ drop n d) (tabulate-ext n f g h)
+
   -- one store more
   pub filled-more : (n : ℕ) (f : ℕ → A) (d : List A) → n < length d → set (filled n f d) n (f n) ≡ filled (n + 1) f d
   unfolding tabulate

@@ -1,0 +1,4 @@
+pub mod Grids
+pub mod Measures
+pub mod Marking
+pub mod Refusals
