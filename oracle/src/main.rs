@@ -1,0 +1,80 @@
+//! Compares the detector with the published Rust source. See oracle/README.md.
+
+mod answers;
+mod cases;
+mod compare;
+mod listing;
+mod plate;
+mod rattle;
+mod record;
+mod rng;
+mod rules;
+
+use cases::Reach;
+use record::Record;
+use std::io::{self, Read, Write};
+
+fn main() {
+    rules::quiet_panics();
+    let args: Vec<String> = std::env::args().skip(1).collect();
+    let word = |i: usize| args.get(i).map(|s| s.as_str());
+    let seed = |i: usize| word(i).and_then(|s| s.parse().ok());
+    match word(0) {
+        Some("compare") => {
+            let share = word(2).and_then(|s| s.parse().ok()).unwrap_or(1.0);
+            let same = compare::run(seed(1).unwrap_or_else(by_clock), share);
+            std::process::exit(!same as i32);
+        }
+        Some("vectors") if args.len() > 1 => vectors(&args[1], seed(2).unwrap_or(1)),
+        Some("answer") => answer_all(),
+        _ => {
+            eprintln!("oracle compare [SEED [SHARE]] | vectors FOLDER [SEED] | answer < records");
+            std::process::exit(2);
+        }
+    }
+}
+
+fn by_clock() -> u64 {
+    let now = std::time::SystemTime::now().duration_since(std::time::UNIX_EPOCH);
+    now.map_or(1, |t| t.as_nanos() as u64 % 1_000_000_007)
+}
+
+/// FOLDER/GROUP/stdin has the records of a group, FOLDER/GROUP/stdout the answers.
+fn vectors(folder: &str, seed: u64) {
+    println!("seed {seed}");
+    let mut groups: Vec<&str> = record::FUNCTIONS.iter().map(|f| f.2).collect();
+    groups.dedup();
+    for group in groups {
+        let (mut records, mut lines) = (Vec::new(), String::new());
+        for (function, name, _) in record::FUNCTIONS.iter().filter(|f| f.2 == group) {
+            let before = records.len();
+            let mut rng = rng::Rng::new(seed ^ (*function as u64) << 32);
+            let cases = Reach::Sample.cases(*function);
+            for i in 0..cases {
+                let record = cases::case(*function, i, &mut rng, Reach::Sample);
+                records.extend(record.encoded());
+                lines += &compare::hex(&answers::answer(&record).bytes);
+                lines.push('\n');
+            }
+            println!("{group}: {name}, {cases} records, {} bytes", records.len() - before);
+        }
+        let folder = std::path::Path::new(folder).join(group);
+        std::fs::create_dir_all(&folder).expect("the folder");
+        std::fs::write(folder.join("stdin"), records).expect("stdin");
+        std::fs::write(folder.join("stdout"), lines).expect("stdout");
+    }
+}
+
+/// Reads records from standard input and prints the answers: a replay program in Rust.
+fn answer_all() {
+    let mut input = io::stdin().lock();
+    let mut out = io::stdout().lock();
+    let mut head = [0u8; 5];
+    while input.read_exact(&mut head).is_ok() {
+        let length = u32::from_le_bytes([head[1], head[2], head[3], head[4]]) as usize;
+        let mut payload = vec![0; length];
+        input.read_exact(&mut payload).expect("a whole record");
+        let answer = answers::answer(&Record { function: head[0], payload });
+        writeln!(out, "{}", compare::hex(&answer.bytes)).expect("a line written");
+    }
+}
