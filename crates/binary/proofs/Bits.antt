@@ -10,8 +10,9 @@ use lib.ListN.{length, getD, List·getD-eq-default}
 use lib.Dec.{eqb}
 use lib.Pow.{pow-mono}
 use borrow.Author.Tests.{eqb-true, eqb-false}
-use Rattle.lists.proofs.Tabulate.{filled-none, filled-step}
-use Rattle.binary.specs.Binary.{bit, darkBit, word, byteOf}
+use Rattle.lists.specs.Lists.{filled}
+use Rattle.lists.proofs.Tabulate.{filled-none, filled-step, filled-same}
+use Rattle.binary.specs.Binary.{bit, darkBit, bytesOf, word, byteOf}
 use Rattle.binary.specs.Writing.{pushed, restAfter, bytesAfter, Written}
 
 pub bit-small : (d : Bool) → bit d < 2
@@ -85,3 +86,16 @@ written-step p n old l l′ acc acc′ b room r s q w = rw (r, s) (go (eqb (n % 
         let same : (n + 1) / 8 ≡ n / 8 = omega arith in
         let next : (n + 1) % 8 ≡ n % 8 + 1 = omega arith in
         rw e (record { bytes = rw same (w .bytes); rest = rw (same, next) (word-more p n acc b (w .rest) q) })
+
+-- all is written
+pub written-all : (p : ℕ → Bool) (n acc : ℕ) (old l : List ℕ) → Written p (bytesOf n * 8) old l acc → l ≡ filled (bytesOf n) (byteOf p) old
+written-all p n acc old l w = let e : bytesOf n * 8 / 8 ≡ bytesOf n = omega arith in rw e at (w .bytes)
+
+word-same : (p q : ℕ → Bool) → ((k : ℕ) → p k ≡ q k) → (s n : ℕ) → word p s n ≡ word q s n
+unfolding word
+word-same p q h s zero = refl
+word-same p q h s (suc n) = rw (word-same p q h s n, h (s + n))
+
+-- pictures with the same pixels have the same bytes
+pub bytes-same : (p q : ℕ → Bool) (m : ℕ) (old : List ℕ) → ((k : ℕ) → p k ≡ q k) → filled m (byteOf p) old ≡ filled m (byteOf q) old
+bytes-same p q m old h = filled-same m (byteOf p) (byteOf q) old (λ j l. word-same p q h (j * 8) 8)
