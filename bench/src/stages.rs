@@ -1,6 +1,9 @@
-//! The C entries of the static library: the one place that declares them. Numbers go as
-//! themselves, a byte slice as its pointer and its length.
+//! The C entries of the static libraries: the one place that declares them. Numbers go as
+//! themselves, a byte slice as its pointer and its length. `plate_chain` is in libchain.a;
+//! the stages alone are in libstages.a. An entry whose library is not linked is none.
+#![cfg_attr(not(all(chain, stages)), allow(dead_code))]
 
+#[cfg(stages)]
 unsafe extern "C" {
     fn plate_gray(
         picture: *const u8, picture_len: usize, width: u32, height: u32, stride: u32, format: u8,
@@ -16,14 +19,20 @@ unsafe extern "C" {
         bits: *const u8, bits_len: usize, width: u32, height: u32,
         denoised: *mut u8, denoised_len: usize,
     ) -> u8;
+    /// Leaves the stored list.
     fn plate_finders(
         bits: *const u8, bits_len: usize, width: u32, height: u32,
         list: *mut u8, list_len: usize,
     ) -> u8;
+    /// Leaves the firmware's bytes.
     fn plate_candidates(
         bits: *const u8, bits_len: usize, width: u32, height: u32,
         detections: *mut u8, detections_len: usize,
     ) -> u8;
+}
+
+#[cfg(chain)]
+unsafe extern "C" {
     fn plate_chain(
         picture: *const u8, picture_len: usize, width: u32, height: u32, stride: u32, format: u8,
         gray: *mut u8, gray_len: usize, bits: *mut u8, bits_len: usize,
@@ -78,62 +87,75 @@ pub struct Picture<'a> {
     pub format: u8,
 }
 
-pub fn gray(p: &Picture, l: &mut Lent) -> u8 {
-    unsafe {
+/// A stage: takes what the earlier ones left and gives the refusal number.
+pub type Stage = fn(&Picture, &mut Lent) -> u8;
+
+#[cfg(stages)]
+mod linked {
+    use super::*;
+
+    pub const GRAY: Option<Stage> = Some(|p, l| unsafe {
         plate_gray(
             p.bytes.as_ptr(), p.bytes.len(), p.width, p.height, p.stride, p.format,
             l.gray.as_mut_ptr(), l.gray.len(),
         )
-    }
-}
+    });
 
-pub fn binarize(p: &Picture, l: &mut Lent) -> u8 {
-    unsafe {
+    pub const BINARIZE: Option<Stage> = Some(|p, l| unsafe {
         plate_binarize(
             l.gray.as_ptr(), l.gray.len(), p.width, p.height,
             l.means.as_mut_ptr(), l.means.len(), l.least.as_mut_ptr(), l.least.len(),
             l.greatest.as_mut_ptr(), l.greatest.len(), l.edges.as_mut_ptr(), l.edges.len(),
             l.nears.as_mut_ptr(), l.nears.len(), l.bits.as_mut_ptr(), l.bits.len(),
         )
-    }
-}
+    });
 
-pub fn denoised(p: &Picture, l: &mut Lent) -> u8 {
-    unsafe {
+    pub const DENOISED: Option<Stage> = Some(|p, l| unsafe {
         plate_denoised(
             l.bits.as_ptr(), l.bits.len(), p.width, p.height,
             l.denoised.as_mut_ptr(), l.denoised.len(),
         )
-    }
-}
+    });
 
-pub fn finders(p: &Picture, l: &mut Lent) -> u8 {
-    unsafe {
+    pub const FINDERS: Option<Stage> = Some(|p, l| unsafe {
         plate_finders(
             l.denoised.as_ptr(), l.denoised.len(), p.width, p.height,
             l.list.as_mut_ptr(), l.list.len(),
         )
-    }
-}
+    });
 
-pub fn candidates(p: &Picture, l: &mut Lent) -> u8 {
-    unsafe {
+    pub const CANDIDATES: Option<Stage> = Some(|p, l| unsafe {
         plate_candidates(
             l.denoised.as_ptr(), l.denoised.len(), p.width, p.height,
             l.detections.as_mut_ptr(), l.detections.len(),
         )
-    }
+    });
 }
 
-pub fn chain(p: &Picture, l: &mut Lent) -> u8 {
-    unsafe {
-        plate_chain(
-            p.bytes.as_ptr(), p.bytes.len(), p.width, p.height, p.stride, p.format,
-            l.gray.as_mut_ptr(), l.gray.len(), l.bits.as_mut_ptr(), l.bits.len(),
-            l.denoised.as_mut_ptr(), l.denoised.len(), l.means.as_mut_ptr(), l.means.len(),
-            l.least.as_mut_ptr(), l.least.len(), l.greatest.as_mut_ptr(), l.greatest.len(),
-            l.edges.as_mut_ptr(), l.edges.len(), l.nears.as_mut_ptr(), l.nears.len(),
-            l.detections.as_mut_ptr(), l.detections.len(),
-        )
-    }
+#[cfg(not(stages))]
+mod linked {
+    use super::*;
+
+    pub const GRAY: Option<Stage> = None;
+    pub const BINARIZE: Option<Stage> = None;
+    pub const DENOISED: Option<Stage> = None;
+    pub const FINDERS: Option<Stage> = None;
+    pub const CANDIDATES: Option<Stage> = None;
 }
+
+pub use linked::*;
+
+#[cfg(chain)]
+pub const CHAIN: Option<Stage> = Some(|p, l| unsafe {
+    plate_chain(
+        p.bytes.as_ptr(), p.bytes.len(), p.width, p.height, p.stride, p.format,
+        l.gray.as_mut_ptr(), l.gray.len(), l.bits.as_mut_ptr(), l.bits.len(),
+        l.denoised.as_mut_ptr(), l.denoised.len(), l.means.as_mut_ptr(), l.means.len(),
+        l.least.as_mut_ptr(), l.least.len(), l.greatest.as_mut_ptr(), l.greatest.len(),
+        l.edges.as_mut_ptr(), l.edges.len(), l.nears.as_mut_ptr(), l.nears.len(),
+        l.detections.as_mut_ptr(), l.detections.len(),
+    )
+});
+
+#[cfg(not(chain))]
+pub const CHAIN: Option<Stage> = None;
