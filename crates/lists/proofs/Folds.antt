@@ -92,6 +92,11 @@ module _ {A B : Type 0} (f : A → List B) where
   flatMap-append [] ys = refl
   flatMap-append (x ∷ xs) ys = rw (flatMap-append xs ys) (sym (append-assoc (f x) (flatMap f xs) (flatMap f ys)))
 
+  pub flatMap-same : (g : A → List B) (xs : List A) → Each (λ (x : A). f x ≡ g x) xs → flatMap f xs ≡ flatMap g xs
+  unfolding flatMap
+  flatMap-same g [] h = refl
+  flatMap-same g (x ∷ xs) h = rw (h .0, flatMap-same g xs (h .1))
+
   -- the first p + 1 of a list
   pub flatMap-take : (xs : List A) (p : ℕ) (d : A) → p < length xs → flatMap f (take (p + 1) xs) ≡ flatMap f (take p xs) ++ f (getD xs p d)
   unfolding flatMap

@@ -3,7 +3,7 @@ use mathlib.Core.Path.{_≡_, refl, sym, _∙_}
 use mathlib.Core.List.{List, [], _∷_, _++_}
 use Prim.Native.Nat.{ℕ, zero, suc, _+_, _-_, _≤_, _<_}
 use native.Mathlib.Omega.{arith}
-use lib.ListN.{length, take, getD, set, replicate, length-append, length-replicate, List·getD-append}
+use lib.ListN.{length, take, getD, set, replicate, length-append, length-replicate, getD-replicate, List·getD-append}
 use lib.Seq.{take-at, set-at, append-snoc}
 use Rattle.lists.specs.Lists.{padded}
 
@@ -23,6 +23,17 @@ module _ {A : Type 0} (n : ℕ) (z : A) where
 
   pub getD-padded : (xs : List A) (i : ℕ) (d e : A) → i < length xs → getD (padded n z xs) i d ≡ getD xs i e
   getD-padded xs i d e h = List·getD-append xs _ d i h ∙ getD-any xs i d e h
+
+  -- any place of the table
+  pub getD-table : (xs : List A) (i : ℕ) (d : A) → i < n → getD (padded n z xs) i d ≡ getD xs i z
+  getD-table xs i d h = go n xs i h
+    where
+      go : (n : ℕ) (xs : List A) (i : ℕ) → i < n → getD (padded n z xs) i d ≡ getD xs i z
+      go n [] i h = let e : n - 0 ≡ n = omega arith in rw e (getD-replicate n i z d h)
+      go n (x ∷ xs) zero h = refl
+      go n (x ∷ xs) (suc i) h =
+          let e : n - suc (length xs) ≡ n - 1 - length xs = omega arith in
+          rw e (go (n - 1) xs i (omega arith))
 
   -- one more is stored in the first free place
   pub padded-more : (xs : List A) (x : A) → length xs < n → set (padded n z xs) (length xs) x ≡ padded n z (xs ++ (x ∷ []))
