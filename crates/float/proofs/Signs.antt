@@ -4,7 +4,7 @@ use mathlib.Core.Bool.{Bool, true, false, not, cond}
 use Prim.Native.Nat.{ℕ, zero, suc, _+_, _*_, _^_}
 use lib.Dec.{ltb}
 use lib.IntN.{pos, negsuc}
-use lib.Ieee.{Float, nan, inf, fin, Format, prec, low, emax, odd, units, round, neg, ofInt}
+use lib.Ieee.{Float, inf, Format, prec, low, emax, odd, units, round, neg, ofInt}
 use lib.Ieee.Fits.{round-is}
 use Rattle.float.specs.Floats.{absOf}
 
