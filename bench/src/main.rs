@@ -3,6 +3,9 @@
 //! of this thread. Slices are lent and not cleared between calls; the Rust allocates its
 //! results at each call, as its functions do. See bench/run.
 
+#[path = "../../oracle/src/picture.rs"]
+#[allow(dead_code)]
+mod picture;
 #[path = "../../oracle/src/plate.rs"]
 #[allow(dead_code)]
 mod plate;
@@ -13,7 +16,8 @@ mod stages;
 
 use lcr_decode::detect::{detect_candidates, find_finders};
 use lcr_decode::image::{ImageView, PixelFormat, binarize, bits_of};
-use plate::{Gray, View, render};
+use picture::Gray;
+use plate::{View, render};
 use rng::Rng;
 use stages::{Lent, Picture, Stage};
 use std::hint::black_box;
@@ -74,7 +78,14 @@ struct Line {
 }
 
 /// Runs both by turns.
-fn line(name: &'static str, turns: usize, rust: &dyn Fn(), ours: Option<Stage>, p: &Picture, l: &mut Lent) -> Line {
+fn line(
+    name: &'static str,
+    turns: usize,
+    rust: &dyn Fn(),
+    ours: Option<Stage>,
+    p: &Picture,
+    l: &mut Lent,
+) -> Line {
     let mut out = Line { name, rust: f64::INFINITY, ours: ours.map(|_| f64::INFINITY) };
     for _ in 0..turns {
         out.rust = out.rust.min(timed(rust));
@@ -102,17 +113,33 @@ fn measure(gray: &Gray, rng: &mut Rng) -> Vec<Line> {
     let mut lines = Vec::new();
     lines.push(line("gray, Gray8", turns, &|| drop(plain_view.gray_buffer()), stages::GRAY, &plain, &mut l));
     lines.push(line("gray, Rgb8", turns, &|| drop(view.gray_buffer()), stages::GRAY, &rgb, &mut l));
-    let same = |ours: Option<Stage>, left: &[u8], rust: &[u8]| assert!(ours.is_none() || left == rust, "results differ");
+    let same = |ours: Option<Stage>, left: &[u8], rust: &[u8]| {
+        assert!(ours.is_none() || left == rust, "results differ")
+    };
     same(stages::GRAY, &l.gray, &luma);
     l.gray.copy_from_slice(&luma);
-    lines.push(line("binarize", turns, &|| drop(binarize(&luma, width, height)), stages::BINARIZE, &rgb, &mut l));
+    lines.push(line(
+        "binarize",
+        turns,
+        &|| drop(binarize(&luma, width, height)),
+        stages::BINARIZE,
+        &rgb,
+        &mut l,
+    ));
     same(stages::BINARIZE, &l.bits, bits_of(&bin));
     l.bits.copy_from_slice(bits_of(&bin));
     lines.push(line("denoised", turns, &|| drop(bin.denoised()), stages::DENOISED, &rgb, &mut l));
     same(stages::DENOISED, &l.denoised, bits_of(&clean));
     l.denoised.copy_from_slice(bits_of(&clean));
     lines.push(line("find_finders", turns, &|| drop(find_finders(&clean)), stages::FINDERS, &rgb, &mut l));
-    lines.push(line("detect_candidates", turns, &|| drop(detect_candidates(&clean)), stages::CANDIDATES, &rgb, &mut l));
+    lines.push(line(
+        "detect_candidates",
+        turns,
+        &|| drop(detect_candidates(&clean)),
+        stages::CANDIDATES,
+        &rgb,
+        &mut l,
+    ));
     let whole = || {
         let bin = binarize(&view.gray_buffer(), width, height);
         drop(detect_candidates(&bin.denoised()));
@@ -148,7 +175,8 @@ fn print_growth(sizes: &[(u32, Vec<Line>)]) {
         let step = |w: &[(u32, Vec<Line>)]| {
             let (a, b) = (&w[0].1[k], &w[1].1[k]);
             let by = (w[1].0 as f64 / w[0].0 as f64).ln();
-            let ours = a.ours.zip(b.ours).map_or("-".to_string(), |(a, b)| format!("{:.2}", (b / a).ln() / by));
+            let ours =
+                a.ours.zip(b.ours).map_or("-".to_string(), |(a, b)| format!("{:.2}", (b / a).ln() / by));
             format!("{:>16}", format!("{:.2} / {ours}", (b.rust / a.rust).ln() / by))
         };
         println!("  {:20}{}", sizes[0].1[k].name, sizes.windows(2).map(step).collect::<String>());

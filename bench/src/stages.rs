@@ -6,40 +6,88 @@
 #[cfg(stages)]
 unsafe extern "C" {
     fn plate_gray(
-        picture: *const u8, picture_len: usize, width: u32, height: u32, stride: u32, format: u8,
-        gray: *mut u8, gray_len: usize,
+        picture: *const u8,
+        picture_len: usize,
+        width: u32,
+        height: u32,
+        stride: u32,
+        format: u8,
+        gray: *mut u8,
+        gray_len: usize,
     ) -> u8;
     fn plate_binarize(
-        gray: *const u8, gray_len: usize, width: u32, height: u32,
-        means: *mut u8, means_len: usize, least: *mut u8, least_len: usize,
-        greatest: *mut u8, greatest_len: usize, edges: *mut u8, edges_len: usize,
-        nears: *mut u8, nears_len: usize, bits: *mut u8, bits_len: usize,
+        gray: *const u8,
+        gray_len: usize,
+        width: u32,
+        height: u32,
+        means: *mut u8,
+        means_len: usize,
+        least: *mut u8,
+        least_len: usize,
+        greatest: *mut u8,
+        greatest_len: usize,
+        edges: *mut u8,
+        edges_len: usize,
+        nears: *mut u8,
+        nears_len: usize,
+        bits: *mut u8,
+        bits_len: usize,
     ) -> u8;
     fn plate_denoised(
-        bits: *const u8, bits_len: usize, width: u32, height: u32,
-        denoised: *mut u8, denoised_len: usize,
+        bits: *const u8,
+        bits_len: usize,
+        width: u32,
+        height: u32,
+        denoised: *mut u8,
+        denoised_len: usize,
     ) -> u8;
     /// Leaves the stored list.
     fn plate_finders(
-        bits: *const u8, bits_len: usize, width: u32, height: u32,
-        list: *mut u8, list_len: usize,
+        bits: *const u8,
+        bits_len: usize,
+        width: u32,
+        height: u32,
+        list: *mut u8,
+        list_len: usize,
     ) -> u8;
     /// Leaves the firmware's bytes.
     fn plate_candidates(
-        bits: *const u8, bits_len: usize, width: u32, height: u32,
-        detections: *mut u8, detections_len: usize,
+        bits: *const u8,
+        bits_len: usize,
+        width: u32,
+        height: u32,
+        detections: *mut u8,
+        detections_len: usize,
     ) -> u8;
 }
 
 #[cfg(chain)]
 unsafe extern "C" {
     fn plate_chain(
-        picture: *const u8, picture_len: usize, width: u32, height: u32, stride: u32, format: u8,
-        gray: *mut u8, gray_len: usize, bits: *mut u8, bits_len: usize,
-        denoised: *mut u8, denoised_len: usize, means: *mut u8, means_len: usize,
-        least: *mut u8, least_len: usize, greatest: *mut u8, greatest_len: usize,
-        edges: *mut u8, edges_len: usize, nears: *mut u8, nears_len: usize,
-        detections: *mut u8, detections_len: usize,
+        picture: *const u8,
+        picture_len: usize,
+        width: u32,
+        height: u32,
+        stride: u32,
+        format: u8,
+        gray: *mut u8,
+        gray_len: usize,
+        bits: *mut u8,
+        bits_len: usize,
+        denoised: *mut u8,
+        denoised_len: usize,
+        means: *mut u8,
+        means_len: usize,
+        least: *mut u8,
+        least_len: usize,
+        greatest: *mut u8,
+        greatest_len: usize,
+        edges: *mut u8,
+        edges_len: usize,
+        nears: *mut u8,
+        nears_len: usize,
+        detections: *mut u8,
+        detections_len: usize,
     ) -> u8;
 }
 
@@ -96,38 +144,68 @@ mod linked {
 
     pub const GRAY: Option<Stage> = Some(|p, l| unsafe {
         plate_gray(
-            p.bytes.as_ptr(), p.bytes.len(), p.width, p.height, p.stride, p.format,
-            l.gray.as_mut_ptr(), l.gray.len(),
+            p.bytes.as_ptr(),
+            p.bytes.len(),
+            p.width,
+            p.height,
+            p.stride,
+            p.format,
+            l.gray.as_mut_ptr(),
+            l.gray.len(),
         )
     });
 
     pub const BINARIZE: Option<Stage> = Some(|p, l| unsafe {
         plate_binarize(
-            l.gray.as_ptr(), l.gray.len(), p.width, p.height,
-            l.means.as_mut_ptr(), l.means.len(), l.least.as_mut_ptr(), l.least.len(),
-            l.greatest.as_mut_ptr(), l.greatest.len(), l.edges.as_mut_ptr(), l.edges.len(),
-            l.nears.as_mut_ptr(), l.nears.len(), l.bits.as_mut_ptr(), l.bits.len(),
+            l.gray.as_ptr(),
+            l.gray.len(),
+            p.width,
+            p.height,
+            l.means.as_mut_ptr(),
+            l.means.len(),
+            l.least.as_mut_ptr(),
+            l.least.len(),
+            l.greatest.as_mut_ptr(),
+            l.greatest.len(),
+            l.edges.as_mut_ptr(),
+            l.edges.len(),
+            l.nears.as_mut_ptr(),
+            l.nears.len(),
+            l.bits.as_mut_ptr(),
+            l.bits.len(),
         )
     });
 
     pub const DENOISED: Option<Stage> = Some(|p, l| unsafe {
         plate_denoised(
-            l.bits.as_ptr(), l.bits.len(), p.width, p.height,
-            l.denoised.as_mut_ptr(), l.denoised.len(),
+            l.bits.as_ptr(),
+            l.bits.len(),
+            p.width,
+            p.height,
+            l.denoised.as_mut_ptr(),
+            l.denoised.len(),
         )
     });
 
     pub const FINDERS: Option<Stage> = Some(|p, l| unsafe {
         plate_finders(
-            l.denoised.as_ptr(), l.denoised.len(), p.width, p.height,
-            l.list.as_mut_ptr(), l.list.len(),
+            l.denoised.as_ptr(),
+            l.denoised.len(),
+            p.width,
+            p.height,
+            l.list.as_mut_ptr(),
+            l.list.len(),
         )
     });
 
     pub const CANDIDATES: Option<Stage> = Some(|p, l| unsafe {
         plate_candidates(
-            l.denoised.as_ptr(), l.denoised.len(), p.width, p.height,
-            l.detections.as_mut_ptr(), l.detections.len(),
+            l.denoised.as_ptr(),
+            l.denoised.len(),
+            p.width,
+            p.height,
+            l.detections.as_mut_ptr(),
+            l.detections.len(),
         )
     });
 }
@@ -148,12 +226,30 @@ pub use linked::*;
 #[cfg(chain)]
 pub const CHAIN: Option<Stage> = Some(|p, l| unsafe {
     plate_chain(
-        p.bytes.as_ptr(), p.bytes.len(), p.width, p.height, p.stride, p.format,
-        l.gray.as_mut_ptr(), l.gray.len(), l.bits.as_mut_ptr(), l.bits.len(),
-        l.denoised.as_mut_ptr(), l.denoised.len(), l.means.as_mut_ptr(), l.means.len(),
-        l.least.as_mut_ptr(), l.least.len(), l.greatest.as_mut_ptr(), l.greatest.len(),
-        l.edges.as_mut_ptr(), l.edges.len(), l.nears.as_mut_ptr(), l.nears.len(),
-        l.detections.as_mut_ptr(), l.detections.len(),
+        p.bytes.as_ptr(),
+        p.bytes.len(),
+        p.width,
+        p.height,
+        p.stride,
+        p.format,
+        l.gray.as_mut_ptr(),
+        l.gray.len(),
+        l.bits.as_mut_ptr(),
+        l.bits.len(),
+        l.denoised.as_mut_ptr(),
+        l.denoised.len(),
+        l.means.as_mut_ptr(),
+        l.means.len(),
+        l.least.as_mut_ptr(),
+        l.least.len(),
+        l.greatest.as_mut_ptr(),
+        l.greatest.len(),
+        l.edges.as_mut_ptr(),
+        l.edges.len(),
+        l.nears.as_mut_ptr(),
+        l.nears.len(),
+        l.detections.as_mut_ptr(),
+        l.detections.len(),
     )
 });
 

@@ -3,6 +3,7 @@
 
 use crate::answers::{Source, answer, chain_of};
 use crate::cases::{Reach, case, chain_case};
+use crate::coverage::Coverage;
 use crate::listing;
 use crate::record::{CHAIN_FROM_C, FUNCTIONS, Record, lent};
 use crate::rng::Rng;
@@ -113,7 +114,7 @@ fn keep(row: &Row, record: &Record, expected: &str, got: &str) {
     println!("{}: mismatch, record in {path}\n  expected {expected}\n  got      {got}", row.name);
 }
 
-fn replayed(function: u8, name: &str, group: &str, seed: u64, cases: u64) -> Row {
+fn replayed(function: u8, name: &str, group: &str, seed: u64, cases: u64, met: &mut Coverage) -> Row {
     let mut row = Row::new(name);
     let Some(mut replay) = program(group).and_then(|p| Replay::start(&p)) else {
         row.unanswered = cases;
@@ -122,7 +123,8 @@ fn replayed(function: u8, name: &str, group: &str, seed: u64, cases: u64) -> Row
     let mut rng = Rng::new(seed ^ (function as u64) << 32);
     let mut i = 0;
     while i < cases {
-        let batch: Vec<Record> = (i..cases.min(i + 64)).map(|k| case(function, k, &mut rng, Reach::Full)).collect();
+        let batch: Vec<Record> =
+            (i..cases.min(i + 64)).map(|k| case(function, k, &mut rng, Reach::Full)).collect();
         batch.iter().for_each(|r| replay.send(r));
         for record in &batch {
             let expected = answer(record);
@@ -139,6 +141,7 @@ fn replayed(function: u8, name: &str, group: &str, seed: u64, cases: u64) -> Row
                 continue;
             }
             row.count(expected.source);
+            met.note(function, &expected.bytes);
             if got != text {
                 row.mismatches += 1;
                 keep(&row, record, &text, &got);
@@ -166,7 +169,15 @@ fn linked_chain(seed: u64, cases: u64) -> Row {
     row
 }
 
-fn compare_chain(row: &mut Row, picture: &[u8], sides: (u32, u32), stride: u32, format: u8, slices: [Vec<u8>; 8], room: u32) {
+fn compare_chain(
+    row: &mut Row,
+    picture: &[u8],
+    sides: (u32, u32),
+    stride: u32,
+    format: u8,
+    slices: [Vec<u8>; 8],
+    room: u32,
+) {
     let mut out = lent(room);
     let [g, b, d, m, l, h, e, n] = slices.clone();
     let mut got = [g, b, d, m, l, h, e, n, out.clone()];
@@ -182,25 +193,35 @@ fn compare_chain(row: &mut Row, picture: &[u8], sides: (u32, u32), stride: u32, 
     let same = number == done.number && got[..8] == done.slices && got[8] == out;
     if !same {
         row.mismatches += 1;
+        if row.mismatches > 3 {
+            return;
+        }
         let differs = |k: usize| if k < 8 { got[k] != done.slices[k] } else { got[8] != out };
         let which: Vec<usize> = (0..9).filter(|k| differs(*k)).collect();
-        println!("{}: mismatch at {sides:?}, stride {stride}, format {format}: {} for {}, slices {which:?}", row.name, number, done.number);
+        println!(
+            "{}: mismatch at {sides:?}, stride {stride}, format {format}: {} for {}, slices {which:?}",
+            row.name, number, done.number
+        );
     }
 }
 
-/// Runs everything and prints the table. True where nothing differs.
-pub fn run(seed: u64, share: f64) -> bool {
+/// Runs everything, or one group, and prints the table. True where nothing differs.
+pub fn run(seed: u64, share: f64, only: Option<&str>) -> bool {
     println!("seed {seed}");
     let some = |cases: u64| ((cases as f64 * share) as u64).max(1);
-    let mut rows = Vec::new();
-    for (function, name, group) in FUNCTIONS {
-        let row = replayed(function, name, group, seed, some(Reach::Full.cases(function)));
+    let (mut rows, mut met) = (Vec::new(), Coverage::default());
+    let wanted = |group: &str| only.is_none_or(|g| g == group);
+    for (function, name, group) in FUNCTIONS.into_iter().filter(|f| wanted(f.2)) {
+        let row = replayed(function, name, group, seed, some(Reach::Full.cases(function)), &mut met);
         eprintln!("{name}: {} cases, {} mismatches", row.cases, row.mismatches);
         rows.push(row);
     }
-    rows.push(linked_chain(seed, some(1000)));
-    rows.push(listing::compared(seed, some(1000)));
+    if wanted("chain") {
+        rows.push(linked_chain(seed, some(1000)));
+        rows.push(listing::compared(seed, some(1000)));
+    }
     print_table(&rows);
+    met.print();
     rows.iter().all(|r| r.mismatches == 0 && r.unanswered == 0)
 }
 
@@ -208,7 +229,10 @@ pub fn run(seed: u64, share: f64) -> bool {
 /// panics, a score is not a number, or it would take too long.
 fn print_table(rows: &[Row]) {
     let head = ["function", "cases", "mismatches", "unanswered", "own: panics", "no number", "slow"];
-    println!("{:26}{:>10}{:>12}{:>12}{:>13}{:>11}{:>7}", head[0], head[1], head[2], head[3], head[4], head[5], head[6]);
+    println!(
+        "{:26}{:>10}{:>12}{:>12}{:>13}{:>11}{:>7}",
+        head[0], head[1], head[2], head[3], head[4], head[5], head[6]
+    );
     let line = |r: &Row| {
         println!(
             "{:26}{:>10}{:>12}{:>12}{:>13}{:>11}{:>7}",

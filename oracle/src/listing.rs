@@ -3,7 +3,7 @@
 use crate::answers::finders_of;
 use crate::cases::scene;
 use crate::compare::Row;
-use crate::plate::ringed;
+use crate::picture::{finder_grid, ringed};
 use crate::rng::Rng;
 use lcr_decode::detect::{Detection, Finder, detect_candidates};
 use lcr_decode::image::binarize;
@@ -66,7 +66,7 @@ pub fn expected(input: &[u8]) -> String {
 fn input(i: u64, rng: &mut Rng) -> Vec<u8> {
     let gray = match i {
         0 => ringed([3, 3, 9, 3, 3], [3, 3, 9, 3, 3], 0),
-        _ if i % 40 == 1 => crate::plate::finder_grid(rng.pick(&[127, 128, 129]), 12, 2, 2),
+        _ if i % 40 == 1 => finder_grid(rng.pick(&[127, 128, 129]), 12, 2, 2),
         _ => {
             let limit = rng.pick(&[900, 10_000, 40_000, 40_000]);
             scene(rng, limit)
@@ -75,7 +75,20 @@ fn input(i: u64, rng: &mut Rng) -> Vec<u8> {
     let (mut width, mut height, mut pixels) = (gray.width as u16, gray.height as u16, gray.pixels);
     if i % 8 == 7 {
         match rng.below(4) {
-            0 => (width, height) = rng.pick(&[(0, 0), (0, 9), (9, 0), (4097, 1), (1, 4097), (4096, 9), (4096, 10), (201, 200), (200, 200), (65535, 65535)]),
+            0 => {
+                (width, height) = rng.pick(&[
+                    (0, 0),
+                    (0, 9),
+                    (9, 0),
+                    (4097, 1),
+                    (1, 4097),
+                    (4096, 9),
+                    (4096, 10),
+                    (201, 200),
+                    (200, 200),
+                    (65535, 65535),
+                ])
+            }
             1 => pixels.truncate(pixels.len() - 1),
             2 => pixels.extend(rng.bytes(3)),
             _ => {

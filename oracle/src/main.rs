@@ -3,7 +3,10 @@
 mod answers;
 mod cases;
 mod compare;
+mod coverage;
+mod differences;
 mod listing;
+mod picture;
 mod plate;
 mod rattle;
 mod record;
@@ -15,20 +18,27 @@ use record::Record;
 use std::io::{self, Read, Write};
 
 fn main() {
-    rules::quiet_panics();
+    differences::quiet_panics();
     let args: Vec<String> = std::env::args().skip(1).collect();
     let word = |i: usize| args.get(i).map(|s| s.as_str());
     let seed = |i: usize| word(i).and_then(|s| s.parse().ok());
     match word(0) {
         Some("compare") => {
             let share = word(2).and_then(|s| s.parse().ok()).unwrap_or(1.0);
-            let same = compare::run(seed(1).unwrap_or_else(by_clock), share);
+            let same = compare::run(seed(1).unwrap_or_else(by_clock), share, word(3));
             std::process::exit(!same as i32);
         }
         Some("vectors") if args.len() > 1 => vectors(&args[1], seed(2).unwrap_or(1)),
         Some("answer") => answer_all(),
+        Some("listing") => {
+            let mut input = Vec::new();
+            io::stdin().read_to_end(&mut input).expect("standard input");
+            print!("{}", listing::expected(&input));
+        }
         _ => {
-            eprintln!("oracle compare [SEED [SHARE]] | vectors FOLDER [SEED] | answer < records");
+            eprintln!(
+                "oracle compare [SEED [SHARE [GROUP]]] | vectors FOLDER [SEED] | answer < records | listing < picture"
+            );
             std::process::exit(2);
         }
     }

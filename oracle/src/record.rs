@@ -146,9 +146,8 @@ impl Bytes {
 
     /// A lent slice as the call left it: its length and FNV-1a of its bytes.
     pub fn slice(&mut self, bytes: &[u8]) -> &mut Bytes {
-        let hash = bytes.iter().fold(0xcbf2_9ce4_8422_2325u64, |h, b| {
-            (h ^ *b as u64).wrapping_mul(0x100_0000_01b3)
-        });
+        let hash =
+            bytes.iter().fold(0xcbf2_9ce4_8422_2325u64, |h, b| (h ^ *b as u64).wrapping_mul(0x100_0000_01b3));
         self.u32(bytes.len() as u32).u64(hash)
     }
 }

@@ -3,7 +3,8 @@
 use super::finders::marker;
 use super::geometry::{any_point, any_three, any_transform, any_version};
 use super::{Reach, bit_picture, resized};
-use crate::plate::{Gray, View, render};
+use crate::picture::Gray;
+use crate::plate::{View, render};
 use crate::record::Record;
 use crate::rng::Rng;
 use lcr_decode::detect::{Finder, build_transform};

@@ -12,7 +12,8 @@ pub fn case(function: u8, i: u64, rng: &mut Rng, reach: Reach) -> Record {
     if function == 80 {
         return lent_case(i, rng, reach);
     }
-    let ((width, height), bits) = if i % 3 == 0 { search_picture(i / 3, rng, reach) } else { plate_bits(i, rng, reach) };
+    let ((width, height), bits) =
+        if i % 3 == 0 { search_picture(i / 3, rng, reach) } else { plate_bits(i, rng, reach) };
     Record::new(function).with(|b| {
         b.u32(width).u32(height).raw(&bits);
     })

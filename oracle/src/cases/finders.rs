@@ -1,7 +1,7 @@
 //! The finder search and the stored list.
 
 use super::{Reach, about, bit_picture, resized, scenes};
-use crate::plate::{Gray, finder_grid, ringed};
+use crate::picture::{Gray, finder_grid, ringed};
 use crate::record::Record;
 use crate::rng::Rng;
 use crate::rules::written_list;
@@ -47,7 +47,12 @@ pub fn search_picture(i: u64, rng: &mut Rng, reach: Reach) -> ((u32, u32), Vec<u
 /// A finder at a place of a picture, or of any floats.
 pub fn any_finder(rng: &mut Rng) -> Finder {
     if rng.one_in(3) {
-        return Finder { x: rng.any_f32(), y: rng.any_f32(), module: rng.any_f32(), confirmations: rng.next() as u32 };
+        return Finder {
+            x: rng.any_f32(),
+            y: rng.any_f32(),
+            module: rng.any_f32(),
+            confirmations: rng.next() as u32,
+        };
     }
     Finder {
         x: rng.real(0.0, 600.0) as f32,
@@ -108,7 +113,8 @@ fn write_case(rng: &mut Rng) -> Record {
         (width, height) = rng.pick(&super::SIDES);
     }
     let list = any_list(rng);
-    let count = if rng.one_in(8) { rng.pick(&[129, 130, 255, 256, 65_536, u32::MAX]) } else { list.len() as u32 };
+    let count =
+        if rng.one_in(8) { rng.pick(&[129, 130, 255, 256, 65_536, u32::MAX]) } else { list.len() as u32 };
     let room = about(rng, 6 + 16 * list.len());
     Record::new(34).with(|b| {
         b.u32(width).u32(height).u32(room as u32).u32(count);

@@ -71,7 +71,8 @@ fn system(i: u64, n: usize, rng: &mut Rng, out: &mut Bytes) {
             _ => 0.0,
         })
         .collect();
-    let mut b: Vec<f64> = (0..n).map(|_| if kind == 5 { rng.any_f64() } else { rng.real(-500.0, 500.0) }).collect();
+    let mut b: Vec<f64> =
+        (0..n).map(|_| if kind == 5 { rng.any_f64() } else { rng.real(-500.0, 500.0) }).collect();
     match kind {
         1 => {
             // Two rows that are equal, or nearly.
@@ -95,7 +96,8 @@ fn system(i: u64, n: usize, rng: &mut Rng, out: &mut Bytes) {
             for k in 0..points {
                 let (u, v) = (any_point(rng).0 as f64, any_point(rng).1 as f64);
                 let (x, y) = (any_point(rng).0 as f64, any_point(rng).1 as f64);
-                let rows = [[u, v, 1.0, 0.0, 0.0, 0.0, -x * u, -x * v], [0.0, 0.0, 0.0, u, v, 1.0, -y * u, -y * v]];
+                let rows =
+                    [[u, v, 1.0, 0.0, 0.0, 0.0, -x * u, -x * v], [0.0, 0.0, 0.0, u, v, 1.0, -y * u, -y * v]];
                 for (r, row) in rows.iter().enumerate() {
                     let at = (2 * k + r) * n;
                     a[at..at + n].copy_from_slice(&row[..n]);
@@ -115,7 +117,8 @@ fn correspondences(n: usize, rng: &mut Rng, out: &mut Bytes) {
     let (x, y) = any_point(rng);
     let m = rng.real(0.5, 12.0) as f32;
     let jitter = |rng: &mut Rng| rng.real(-3.0, 3.0) as f32;
-    let mut dst: Vec<(f32, f32)> = src.iter().map(|s| (x + s.0 * m + jitter(rng), y + s.1 * m + jitter(rng))).collect();
+    let mut dst: Vec<(f32, f32)> =
+        src.iter().map(|s| (x + s.0 * m + jitter(rng), y + s.1 * m + jitter(rng))).collect();
     match rng.below(6) {
         0 => src.iter_mut().for_each(|p| *p = any_point(rng)),
         1 => dst.iter_mut().for_each(|p| *p = any_point(rng)),
@@ -233,7 +236,10 @@ fn edges(i: u64, rng: &mut Rng) -> [Finder; 3] {
     let mut f = [at(0.0, 0.0), at(leg, 0.0), at(0.0, leg)];
     match i % 8 {
         1 => f[rng.below(3) as usize].module = rng.any_f32(),
-        2 => f[rng.below(3) as usize].module = rng.pick(&[0.0, -0.0, -1.0, 1e-45, 1e-38, f32::NAN, f32::INFINITY]),
+        2 => {
+            f[rng.below(3) as usize].module =
+                rng.pick(&[0.0, -0.0, -1.0, 1e-45, 1e-38, f32::NAN, f32::INFINITY])
+        }
         3 => f[rng.below(3) as usize].x = rng.any_f32(),
         4 if rng.one_in(4) => {
             // About 4 × the top of i32, in modules.

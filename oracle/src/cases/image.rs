@@ -2,7 +2,7 @@
 
 use super::scenes::clear_plate;
 use super::{Reach, SIDES, about, resized, scene};
-use crate::plate::{Gray, finder_grid};
+use crate::picture::{Gray, finder_grid};
 use crate::record::{LONGEST, Record};
 use crate::rng::Rng;
 use crate::rules::{bit_bytes, blocks, pixels};
@@ -70,7 +70,11 @@ fn plain(rng: &mut Rng, reach: Reach, most: usize) -> Gray {
 /// Levels by squares, so that some blocks have an edge and others only neighbours with one,
 /// with wide level parts; spreads of 24 and 25 are common.
 fn uneven(rng: &mut Rng) -> Gray {
-    let (w, h) = if rng.one_in(2) { (rng.whole(60, 200), rng.whole(1, 12)) } else { (rng.whole(1, 12), rng.whole(60, 200)) };
+    let (w, h) = if rng.one_in(2) {
+        (rng.whole(60, 200), rng.whole(1, 12))
+    } else {
+        (rng.whole(1, 12), rng.whole(60, 200))
+    };
     let low = rng.whole(0, 200) as u8;
     let step = rng.pick(&[1, 23, 24, 25, 26, 55]);
     let square = rng.pick(&[8, 8, 16, 40, 5]);

@@ -1,6 +1,7 @@
 //! Pictures for every stage that takes one.
 
-use crate::plate::*;
+use crate::picture::{Gray, ringed};
+use crate::plate::{View, render};
 use crate::rng::Rng;
 use lcr_decode::image::{binarize, bits_of};
 

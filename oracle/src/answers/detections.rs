@@ -1,0 +1,133 @@
+//! The alignment marker, and detections of lent finders and of pictures.
+
+use super::{Source, finders_of};
+use crate::differences::*;
+use crate::record::{Bytes, Fields};
+use crate::rules::{bad_version, bits_refusal, refusal};
+use lcr_core::Version;
+use lcr_decode::detect::*;
+use lcr_decode::image::{Binary, binary_of};
+use lcr_decode::transform::numbers_of;
+
+/// The Rust's answer, or that of the own lines where it panics or takes too long.
+fn asked<T>(slow: bool, rust: impl FnOnce() -> T, own: impl FnOnce() -> T) -> (T, Source) {
+    if slow {
+        return (own(), Source::Slow);
+    }
+    match unless_panic(rust) {
+        Some(v) => (v, Source::Rust),
+        None => (own(), Source::Panicked),
+    }
+}
+
+pub fn alignment_answer(function: u8, f: &mut Fields, out: &mut Bytes) -> Source {
+    let (width, height) = (f.u32(), f.u32());
+    match function {
+        64 => {
+            let (predicted, module) = (f.point(), f.f32());
+            let bits = f.rest();
+            let number = bits_refusal(width, height, bits.len());
+            if number != 0 {
+                out.u8(number).maybe_point(None);
+                return Source::Rust;
+            }
+            let bin = binary_of(width, height, bits);
+            let own = || find_alignment_of(&bin, predicted, module);
+            let (found, source) = asked(slow(module), || find_alignment(&bin, predicted, module), own);
+            assert!(same_point(found, own()), "the row search");
+            out.u8(0).maybe_point(found);
+            source
+        }
+        65 | 66 => {
+            let (t, version) = (f.transform(), f.u8());
+            let module = if function == 66 { f.f32() } else { 0.0 };
+            let bits = f.rest();
+            let number = bits_refusal(width, height, bits.len());
+            let number = if number == 0 { refusal(&[bad_version(version)]) } else { number };
+            if number != 0 {
+                out.u8(number).maybe_point(None);
+                return Source::Rust;
+            }
+            let bin = binary_of(width, height, bits);
+            let version = Version::new(version).unwrap();
+            let rust = || match function {
+                65 => match_alignment(&bin, &t, version),
+                _ => locate_alignment(&bin, &t, version, module),
+            };
+            let own = || locate_alignment_of(&bin, &t, version, module);
+            let (found, source) = asked(slow(module), rust, own);
+            out.u8(0).maybe_point(found);
+            source
+        }
+        _ => {
+            let (three, version, t, module) = (f.three(), f.u8(), f.transform(), f.f32());
+            let bits = f.rest();
+            let number = bits_refusal(width, height, bits.len());
+            let number = if number == 0 { refusal(&[bad_version(version)]) } else { number };
+            if number != 0 {
+                out.u8(number).numbers(&[0.0; 8]).maybe_point(None);
+                return Source::Rust;
+            }
+            let bin = binary_of(width, height, bits);
+            let version = Version::new(version).unwrap();
+            let rust = || refine_alignment(&bin, &three, version, t, module);
+            let own = || refine_alignment_of(&bin, &three, version, t, module);
+            let ((t, found), source) = asked(slow(module), rust, own);
+            out.u8(0).numbers(&numbers_of(&t)).maybe_point(found);
+            source
+        }
+    }
+}
+
+fn same_point(a: Maybe, b: Maybe) -> bool {
+    let bits = |p: Maybe| {
+        let mut out = Bytes::default();
+        out.maybe_point(p);
+        out.0
+    };
+    bits(a) == bits(b)
+}
+
+/// The detections of a list of finders.
+fn detections_of(bin: &Binary, list: &[Finder]) -> (Vec<Detection>, Source) {
+    let (triples, odd) = ranked(list);
+    let slow = triples.iter().any(slow_triple);
+    let own = || -> Vec<Detection> {
+        let one = |f: &[Finder; 3]| {
+            let rust = || detection_of(bin, *f);
+            asked(slow_triple(f), rust, || detection_by_rules(bin, *f)).0
+        };
+        triples.iter().filter_map(one).collect()
+    };
+    if odd {
+        return (own(), Source::NoNumber);
+    }
+    asked(slow, || candidates_from(bin, list.to_vec()), own)
+}
+
+pub fn candidates_answer(function: u8, f: &mut Fields, out: &mut Bytes) -> Source {
+    let (width, height) = (f.u32(), f.u32());
+    let count = if function == 80 { f.u32() } else { 0 };
+    let list: Vec<Finder> = (0..count).map(|_| f.finder()).collect();
+    let bits = f.rest();
+    let number = bits_refusal(width, height, bits.len());
+    if number != 0 {
+        out.u8(number).u8(0);
+        return Source::Rust;
+    }
+    let bin = binary_of(width, height, bits);
+    if function == 80 {
+        let (found, source) = detections_of(&bin, &list);
+        out.u8(0).detections(&found);
+        return source;
+    }
+    if finders_of(&bin).is_none() {
+        out.u8(6).u8(0);
+        return Source::Rust;
+    }
+    match function {
+        81 => out.u8(0).detections(&detect_candidates(&bin)),
+        _ => out.u8(0).detections(detect(&bin).as_slice()),
+    };
+    Source::Rust
+}

@@ -1,0 +1,62 @@
+//! Linear systems, transforms and the geometry of three finders.
+
+use super::{Source, put_version};
+use crate::differences::{estimate_version_of, unless_panic};
+use crate::record::{Bytes, Fields};
+use crate::rules::{bad_version, refusal};
+use lcr_core::Version;
+use lcr_decode::detect::{build_transform, estimate_version, order_finders};
+use lcr_decode::math::solve;
+use lcr_decode::transform::{Transform, numbers_of};
+
+pub fn answer(function: u8, f: &mut Fields, out: &mut Bytes) -> Source {
+    match function {
+        48 | 49 => {
+            let n = if function == 48 { 6 } else { 8 };
+            let mut a: Vec<f64> = (0..n * n).map(|_| f.f64()).collect();
+            let mut b: Vec<f64> = (0..n).map(|_| f.f64()).collect();
+            out.maybe_numbers(solve(&mut a, &mut b, n), n);
+        }
+        50 => {
+            let t = Transform::from_quad(f.points(), f.points());
+            out.maybe_numbers(t.map(|t| numbers_of(&t).to_vec()), 8);
+        }
+        51 => {
+            let t = Transform::from_triangle(f.points(), f.points());
+            out.maybe_numbers(t.map(|t| numbers_of(&t).to_vec()), 8);
+        }
+        52 => {
+            out.point(f.transform().apply(f.f32(), f.f32()));
+        }
+        53 => {
+            out.point(f.transform().module_center(f.u16(), f.u16()));
+        }
+        54 => {
+            out.f32(f.transform().local_pitch(f.u16(), f.u16()));
+        }
+        55 => {
+            out.point(f.transform().pitch_range(f.u16()));
+        }
+        56 => {
+            let [a, b, c] = f.three();
+            out.finders(&order_finders(a, b, c));
+        }
+        57 => {
+            let three = f.three();
+            let asked = unless_panic(|| estimate_version(&three));
+            put_version(asked.unwrap_or_else(|| estimate_version_of(&three)), out);
+            return if asked.is_some() { Source::Rust } else { Source::Panicked };
+        }
+        _ => {
+            let three = f.three();
+            let (flag, marker, version) = (f.u8(), f.point(), f.u8());
+            let number = refusal(&[bad_version(version)]);
+            let built = (number == 0).then(|| {
+                let version = Version::new(version).unwrap();
+                build_transform(&three, (flag == 1).then_some(marker), version)
+            });
+            out.u8(number).maybe_numbers(built.flatten().map(|t| numbers_of(&t).to_vec()), 8);
+        }
+    }
+    Source::Rust
+}

@@ -1,0 +1,78 @@
+//! The answer that is expected to a record: the published Rust's wherever it can be asked.
+
+mod detections;
+mod geometry;
+mod pictures;
+
+use crate::record::{Bytes, Fields, Record};
+use lcr_core::Version;
+use lcr_core::color::Srgb8;
+
+pub use pictures::{chain_of, finders_of};
+
+/// Where an answer comes from.
+#[derive(Copy, Clone, PartialEq, Eq, Debug)]
+pub enum Source {
+    /// The published Rust.
+    Rust,
+    /// The comparison's own lines, since the checked Rust panics.
+    Panicked,
+    /// The comparison's own lines, since a score is not a number.
+    NoNumber,
+    /// The comparison's own lines, since the Rust would take seconds.
+    Slow,
+}
+
+pub struct Answer {
+    pub bytes: Vec<u8>,
+    pub source: Source,
+}
+
+/// The answer to a record.
+pub fn answer(record: &Record) -> Answer {
+    let mut out = Bytes::default();
+    let f = &mut Fields(&record.payload);
+    let source = match record.function {
+        1..=8 => core_answer(record.function, f, &mut out),
+        16..=18 => pictures::answer(record.function, f, &mut out),
+        32..=34 => pictures::finders_answer(record.function, f, &mut out),
+        48..=58 => geometry::answer(record.function, f, &mut out),
+        64..=67 => detections::alignment_answer(record.function, f, &mut out),
+        80..=82 => detections::candidates_answer(record.function, f, &mut out),
+        96 => pictures::chain_answer(f, &mut out),
+        n => panic!("no function {n}"),
+    };
+    Answer { bytes: out.0, source }
+}
+
+fn core_answer(function: u8, f: &mut Fields, out: &mut Bytes) -> Source {
+    let colour = |f: &mut Fields| Srgb8::new(f.u8(), f.u8(), f.u8());
+    let put = |c: Srgb8, out: &mut Bytes| {
+        out.u8(c.r).u8(c.g).u8(c.b);
+    };
+    match function {
+        1..=3 => {
+            let version = Version::new(f.u8()).ok();
+            out.u8(if version.is_some() { 0 } else { 7 });
+            match function {
+                1 => out.u8(version.map_or(0, |v| v.get())),
+                2 => out.u16(version.map_or(0, |v| v.side())),
+                _ => out.u32(version.map_or(0, |v| v.modules() as u32)),
+            };
+        }
+        4 => put_version(Version::from_side(f.u16()), out),
+        5 => put(colour(f), out),
+        6 => put(Srgb8::from_hex(f.u32()), out),
+        7 => {
+            out.u32(colour(f).to_hex());
+        }
+        _ => {
+            out.f32(colour(f).rec709_luma());
+        }
+    }
+    Source::Rust
+}
+
+fn put_version(v: Option<Version>, out: &mut Bytes) {
+    out.u8(v.is_some() as u8).u8(v.map_or(0, |v| v.get()));
+}
