@@ -2,6 +2,7 @@
 -- through four points, and of an affine map through three. Document 01: `Transform` refuses nothing, "none" is its answer where the Rust gives `None`,
 -- and the floats handed in may be any. Steps are f64. Definitions only.
 use mathlib.Core.List.{List, [], _∷_, _++_}
+use lib.ListN.{replicate}
 use lib.Ieee.{Float, neg}
 use Rattle.float.specs.Steps.{times64}
 use Rattle.float.specs.Constants.{d0, d1}
@@ -11,7 +12,12 @@ use Rattle.transform.specs.declared.Point.{Point}
 use Rattle.transform.specs.declared.Wide.{Wide}
 use Rattle.transform.specs.declared.Triangle.{Triangle}
 use Rattle.transform.specs.declared.Quad.{Quad}
+use Rattle.transform.specs.declared.Transform.{Transform}
 use Rattle.transform.specs.declared.Fit.{Fit}
+
+-- every number 0, as a refusal leaves it
+abbrev pub zeroTransform : Transform
+zeroTransform = record { m = replicate 8 d0 }
 
 -- an f32 is an f64 as it stands
 unfoldable pub widened : Point → Wide

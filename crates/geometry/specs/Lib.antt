@@ -1,0 +1,4 @@
+pub mod Order
+pub mod Score
+pub mod Estimate
+pub mod Build
