@@ -123,19 +123,19 @@ pub fn render(rng: &mut Rng, version: u8, view: &View) -> Gray {
     let width = (greatest(|c| c.0) - x0).clamp(1.0, 4096.0) as usize;
     let height = (greatest(|c| c.1) - y0).clamp(1.0, 4096.0) as usize;
     let back = adjugate(map);
-    let taps = if view.turn == 0.0 && view.tilt == (0.0, 0.0) && p.fract() == 0.0 { 1 } else { 3 };
-    let mut light = vec![0f64; width * height];
-    for (i, v) in light.iter_mut().enumerate() {
-        let (px, py) = ((i % width) as f64 + x0, (i / width) as f64 + y0);
-        let mut count = 0;
-        for t in 0..taps * taps {
-            let (dx, dy) = ((t % taps) as f64 + 0.5, (t / taps) as f64 + 0.5);
-            let (mx, my) = at(back, px + dx / taps as f64, py + dy / taps as f64);
-            let inside = (0.0..side).contains(&mx) && (0.0..side).contains(&my);
-            count += (inside && dark[my as usize * side as usize + mx as usize]) as usize;
-        }
-        let share = count as f64 / (taps * taps) as f64;
-        *v = view.levels.1 + (view.levels.0 - view.levels.1) * share;
+    // One tap a pixel where pixels lie within modules, else four.
+    let upright = view.turn == 0.0 && view.tilt == (0.0, 0.0) && p.fract() == 0.0;
+    let taps: &[(f64, f64)] =
+        if upright { &[(0.5, 0.5)] } else { &[(0.25, 0.25), (0.75, 0.25), (0.25, 0.75), (0.75, 0.75)] };
+    let step = (view.levels.0 - view.levels.1) / taps.len() as f64;
+    let mut light = Vec::with_capacity(width * height);
+    for (y, x) in (0..height).flat_map(|y| (0..width).map(move |x| (y, x))) {
+        let is_dark = |tap: &&(f64, f64)| {
+            let (u, v) = at(back, x as f64 + x0 + tap.0, y as f64 + y0 + tap.1);
+            let inside = u >= 0.0 && v >= 0.0 && u < side && v < side;
+            inside && dark[v as usize * side as usize + u as usize]
+        };
+        light.push(view.levels.1 + step * taps.iter().filter(is_dark).count() as f64);
     }
     blurred(&mut light, width, height, view.blur);
     let pixels = expose(rng, &light, width, height, view);

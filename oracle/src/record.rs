@@ -59,6 +59,7 @@ impl Record {
     }
 
     pub fn encoded(&self) -> Vec<u8> {
+        assert!(self.payload.len() <= LONGEST);
         let mut out = vec![self.function];
         out.extend((self.payload.len() as u32).to_le_bytes());
         out.extend(&self.payload);

@@ -43,8 +43,8 @@ pub fn channels(format: u8) -> Option<u64> {
 /// The checks of gray conversion on the picture's side, 3 and 4.
 pub fn picture_checks(length: usize, width: u32, height: u32, stride: u32, format: u8) -> [(u8, bool); 2] {
     let row = width as u64 * channels(format).unwrap_or(0);
-    let need = (height as u64).saturating_sub(1) * stride as u64 + row;
-    [(3, channels(format).is_none()), (4, (stride as u64) < row || (length as u64) < need)]
+    let need = (height as u128).saturating_sub(1) * stride as u128 + row as u128;
+    [(3, channels(format).is_none()), (4, (stride as u64) < row || (length as u128) < need)]
 }
 
 /// 1, 2 and 4 of an operation on bits.

@@ -74,14 +74,31 @@ struct Seen {
     pitch: f32,
 }
 
+/// Swaps dark and light in up to four modules of the marker: two may be wrong.
+fn flip_modules(rng: &mut Rng, gray: &mut Gray, version: u8, pitch: u32) {
+    let corner = 17 + 4 * version as u32 - 9;
+    for _ in 0..rng.whole(1, 4) {
+        let (x, y) = ((corner + rng.whole(0, 4)) * pitch, (corner + rng.whole(0, 4)) * pitch);
+        for (dy, dx) in (0..pitch).flat_map(|dy| (0..pitch).map(move |dx| (dy, dx))) {
+            let at = (y + dy) * gray.width + x + dx;
+            gray.pixels[at as usize] = 255 - gray.pixels[at as usize];
+        }
+    }
+}
+
 fn seen(rng: &mut Rng, reach: Reach) -> Seen {
     let version = rng.whole(1, if reach == Reach::Full { 32 } else { 6 }) as u8;
     let widest = if version > 12 { 3 } else { 5 };
     let pitch = if reach == Reach::Full { rng.whole(2, widest) } else { rng.whole(1, 2) };
     let noise = rng.pick(&[0.0, 0.0, 60.0]);
     let view = View { pitch: pitch as f64, noise, margin: 0.0, ..View::PLAIN };
-    let gray = render(rng, version, &view);
-    let gray = if rng.one_in(4) { gray.damaged(rng) } else { gray };
+    let mut gray = render(rng, version, &view);
+    if rng.one_in(2) {
+        flip_modules(rng, &mut gray, version, pitch);
+    }
+    if rng.one_in(6) {
+        gray = gray.damaged(rng);
+    }
     let p = pitch as f32;
     let last = (17 + 4 * version as u32) as f32 - 3.5;
     let shift = rng.pick(&[0.0, 0.2, 1.5]) * p as f64;

@@ -79,15 +79,15 @@ fn corners(rng: &mut Rng) -> Vec<Finder> {
     let module = rng.pick(&[1.0, 2.0, 3.0]);
     let mut out: Vec<Finder> = (0..rng.whole(3, 8))
         .map(|_| Finder {
-            x: rng.whole(0, 5) as f32 * step,
-            y: rng.whole(0, 5) as f32 * step,
+            x: rng.whole(0, 8) as f32 * step,
+            y: rng.whole(0, 8) as f32 * step,
             module,
             confirmations: rng.whole(2, 9),
         })
         .collect();
     for f in out.iter_mut() {
         if rng.one_in(3) {
-            f.module *= rng.pick(&[0.5, 2.0, 2.5, 1.6, 4.0, 0.25]);
+            f.module *= rng.pick(&[0.5, 1.5, 2.0, 2.5, 1.6, 4.0, 0.25]);
         }
     }
     out

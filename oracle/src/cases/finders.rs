@@ -27,6 +27,7 @@ pub fn search_picture(i: u64, rng: &mut Rng, reach: Reach) -> ((u32, u32), Vec<u
             let count = rng.pick(&[1, 2, 3, 126, 127, 128, 128, 129, 129, 130, 200]);
             finder_grid(count, 12, rng.whole(1, 2), rng.whole(1, 3))
         }
+        0 if i % 128 == 8 => scenes::longest(rng),
         1 | 2 => {
             let across = scenes::runs(rng);
             let down = if rng.one_in(2) { across } else { scenes::runs(rng) };

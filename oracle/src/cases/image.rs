@@ -1,6 +1,6 @@
 //! Gray conversion, black and white conversion, denoising, and the whole chain.
 
-use super::scenes::clear_plate;
+use super::scenes::{clear_plate, longest};
 use super::{Reach, SIDES, about, resized, scene};
 use crate::picture::{Gray, finder_grid};
 use crate::record::{LONGEST, Record};
@@ -38,11 +38,14 @@ fn coloured(rng: &mut Rng, gray: &Gray, most: usize, spoilt: bool) -> (u32, u32,
     let stride = row + if rng.one_in(2) { 0 } else { rng.whole(1, 9) as usize };
     let mut bytes = gray.bytes(rng, format as usize, stride);
     let (mut width, mut height, mut stride, mut kind) = (gray.width, gray.height, stride as u32, format);
-    if spoilt {
+    for _ in 0..if spoilt { rng.whole(1, 2) } else { 0 } {
         match rng.below(4) {
             0 => (width, height) = rng.pick(&SIDES),
             1 => kind = rng.pick(&[0, 2, 5, 255, 1, 3, 4]),
-            2 => stride = rng.pick(&[0, 1, row as u32 - 1, row as u32, row as u32 + 1, 1 << 31, u32::MAX]),
+            2 => {
+                let row = row as u32;
+                stride = rng.pick(&[0, 1, row - 1, row, row + 1, 1 << 31, u32::MAX]);
+            }
             _ => {
                 let length = about(rng, bytes.len());
                 bytes = resized(rng, bytes, length);
@@ -87,7 +90,14 @@ fn uneven(rng: &mut Rng) -> Gray {
 }
 
 fn gray_case(i: u64, rng: &mut Rng, reach: Reach) -> Record {
-    let gray = plain(rng, reach, COLOURED);
+    if i % 1024 >= 768 {
+        // Every format byte, with bytes for four a pixel.
+        let picture = rng.bytes(16);
+        return Record::new(16).with(|b| {
+            b.u32(2).u32(2).u32(8).u8(i as u8).u32(4).raw(&picture);
+        });
+    }
+    let gray = if i % 128 == 64 { longest(rng) } else { plain(rng, reach, COLOURED) };
     let spoilt = rng.one_in(3);
     let most = most_coloured(rng, reach);
     let (mut width, mut height, stride, format, bytes) = coloured(rng, &gray, most, spoilt);
@@ -111,7 +121,7 @@ fn binarize_case(i: u64, rng: &mut Rng, reach: Reach) -> Record {
             b.raw(&[i as u8, (i / 256) as u8]);
         });
     }
-    let gray = plain(rng, reach, LONGEST);
+    let gray = if i % 128 == 64 { longest(rng) } else { plain(rng, reach, LONGEST) };
     let (mut width, mut height, mut bytes) = (gray.width, gray.height, gray.pixels);
     if i % 16 < 3 {
         (width, height) = SIDES[(i / 16 % 16) as usize];
@@ -147,7 +157,10 @@ fn denoised_case(i: u64, rng: &mut Rng, reach: Reach) -> Record {
         });
     }
     let spoilt = rng.one_in(4);
-    let ((width, height), bits) = if rng.one_in(2) {
+    let ((width, height), bits) = if i % 128 == 64 {
+        let gray = longest(rng);
+        ((gray.width, gray.height), gray.bits(128))
+    } else if rng.one_in(2) {
         super::bit_picture(rng, reach, spoilt)
     } else {
         let (w, h) = (rng.whole(1, 40), rng.whole(1, 40));
@@ -170,7 +183,10 @@ pub struct ChainCase {
 
 pub fn chain_case(i: u64, rng: &mut Rng, limit: usize, most: usize) -> ChainCase {
     let gray = match i % 4 {
-        _ if i % 256 == 2 => finder_grid([129, 128, 127, 3][(i / 256 % 4) as usize], 12, 2, rng.whole(3, 5)),
+        _ if i % 256 == 2 => {
+            finder_grid([129, 128, 130, 127][(i / 256 % 4) as usize], 12, 2, rng.whole(3, 5))
+        }
+        _ if i % 256 == 4 => longest(rng),
         1 | 3 if limit < 2_000 => clear_plate(rng, 1, 2.4),
         1 | 3 => clear_plate(rng, limit as u32 / 9_000 + 1, 3.5),
         _ => scene(rng, limit),

@@ -105,6 +105,14 @@ fn two_plates(rng: &mut Rng, limit: usize) -> Gray {
     out
 }
 
+/// A picture whose one side is 4,096, the other from 1 to 3.
+pub fn longest(rng: &mut Rng) -> Gray {
+    let short = rng.whole(1, 3);
+    let (w, h) = if rng.one_in(2) { (4096, short) } else { (short, 4096) };
+    let side = rng.whole(1, 20);
+    Gray::squares(rng, w, h, side, &[0, 20, 200, 255])
+}
+
 /// From 1 × 1 up to 9 × 9.
 fn tiny(rng: &mut Rng) -> Gray {
     let (w, h) = (rng.whole(1, 9), rng.whole(1, 9));
