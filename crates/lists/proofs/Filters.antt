@@ -87,6 +87,11 @@ module _ {A : Type 0} where
       go true e = omega arith
       go false e = omega arith
 
+  pub howMany-same : (p q : A → Bool) (xs : List A) → Each (λ (x : A). p x ≡ q x) xs → howMany p xs ≡ howMany q xs
+  unfolding howMany
+  howMany-same p q [] h = refl
+  howMany-same p q (x ∷ xs) h = rw (h .0, howMany-same p q xs (h .1))
+
   -- whoever passes p passes q
   abbrev pub Under : (A → Bool) → (A → Bool) → A → Type 0
   Under p q x = p x ≡ true → q x ≡ true

@@ -1,0 +1,5 @@
+pub mod Tallies
+pub mod LevelLaws
+pub mod Alike
+pub mod Dark
+pub mod Refusals

@@ -1,0 +1,3 @@
+pub mod Levels
+pub mod Binarize
+pub mod Splits
