@@ -1,0 +1,39 @@
+-- `find_finders` (document 01, "The eight refusal numbers": 1, 2, 4, "then 6, given if and only if a confirmed hit falls within no held finder while 128
+-- are held"; "A refusal gives its number with every other field zero"). Definitions only.
+use Prim.Native.Nat.{ℕ}
+use mathlib.Core.Bool.{Bool, true, false}
+use mathlib.Core.List.{List, [], _∷_, _++_}
+use lib.ListN.{length}
+use Rattle.lists.specs.Lists.{padded}
+use Rattle.lcr_core.specs.Outcome.{Check, firstOf, unless}
+use Rattle.binary.specs.Refusal.{bitsChecks}
+use Rattle.finders.specs.Held.{Held, held, over}
+use Rattle.finders.specs.Search.{maxFinders, found}
+use Rattle.finders.specs.Rank.{ranked}
+use Rattle.geometry.specs.declared.Finder.{Finder}
+use Rattle.geometry.specs.Order.{zeroFinder}
+use Rattle.finders.specs.declared.Finders.{Finders}
+use Rattle.finders.specs.declared.Found.{Found}
+
+-- a table that holds a list: zero beyond the count
+abbrev pub tableOf : List Finder → Finders
+tableOf fs = record { count = length fs; table = padded maxFinders zeroFinder fs }
+
+-- whether there was one finder too many, and the finders otherwise
+abbrev pub isOver : Held → Bool
+isOver over = true
+isOver (held fs) = false
+
+abbrev pub heldList : Held → List Finder
+heldList over = []
+heldList (held fs) = fs
+
+-- 1, 2, 4 and 6, in this order
+unfoldable pub findRefusal : List ℕ → ℕ → ℕ → ℕ
+findRefusal bits width height =
+    firstOf (bitsChecks (length bits) width height ++ (record { refuses = isOver (found bits width height); number = 6 } ∷ []))
+
+unfoldable pub answerOf : List ℕ → ℕ → ℕ → Found
+answerOf bits width height =
+    let n = findRefusal bits width height in
+    record { refusal = n; finders = tableOf (unless n [] (ranked (heldList (found bits width height)))) }

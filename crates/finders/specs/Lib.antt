@@ -1,0 +1,6 @@
+pub mod Answer
+pub mod Search
+pub mod Hits
+pub mod Held
+pub mod Rank
+pub mod Inner
