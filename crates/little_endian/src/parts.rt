@@ -4,7 +4,7 @@ ghost use Prim.Native.Nat.{_^_, _<_};
 ghost use lib.ListN.{getD, set};
 ghost use Rattle.little_endian.specs.Bytes.{bytesLE, readLE, put};
 
-fn get_one(s: &[u8], at: u64) -> u8
+pub fn get_one(s: &[u8], at: u64) -> u8
     ensures { λ r. ⌜ r ≡ getD (now (s .entry)) at 0 ⌝ }
 {
     if at < s.len() as u64 {
@@ -30,7 +30,7 @@ pub fn get_four(s: &[u8], at: u64) -> u32
     low as u32 + 65536 * high as u32
 }
 
-fn put_one(s: &mut [u8], at: u64, b: u8)
+pub fn put_one(s: &mut [u8], at: u64, b: u8)
     ensures { λ _. ⌜ now (s .exit) ≡ set (now (s .entry)) at b ⌝ }
 {
     if at < s.len() as u64 {
