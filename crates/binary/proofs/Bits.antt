@@ -26,7 +26,7 @@ unfolding bit
 bit-one true = refl
 bit-one false = refl
 
-digit : (m : ℕ) → m < 2 → m ≡ bit (eqb m 1)
+pub digit : (m : ℕ) → m < 2 → m ≡ bit (eqb m 1)
 unfolding bit
 digit zero h = refl
 digit (suc zero) h = refl
@@ -47,7 +47,7 @@ word-bound p s zero = omega arith
 word-bound p s (suc n) = let h = word-bound p s n in let d = bit-small (p (s + n)) in rw pow-suc (omega arith)
 
 -- a byte under construction has room
-word-low : (p : ℕ → Bool) (s r : ℕ) → r < 8 → word p s r % 128 ≡ word p s r
+pub word-low : (p : ℕ → Bool) (s r : ℕ) → r < 8 → word p s r % 128 ≡ word p s r
 word-low p s r h =
     let b = word-bound p s r in
     let k : 2 ^ r ≤ 2 ^ 7 = pow-mono {i = r} {j = 7} (omega arith) in

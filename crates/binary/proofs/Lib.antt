@@ -1,4 +1,5 @@
 pub mod Bits
 pub mod Runs
+pub mod Words
 pub mod Packed
 pub mod Pass

@@ -2,29 +2,20 @@
 use mathlib.Core.Path.{_≡_, ap, _∙_}
 use mathlib.Core.Bool.{Bool}
 use mathlib.Core.List.{List}
-use Prim.Native.Nat.{ℕ, zero, suc, _+_, _-_, _*_, _/_, _%_, _^_, _<_}
-use native.Mathlib.Nat.{add-zero, add-suc, pow-zero, pow-succ', div-one, div-div-eq-div-mul}
+use Prim.Native.Nat.{ℕ, _+_, _-_, _*_, _/_, _%_, _^_, _<_}
 use native.Mathlib.Omega.{arith}
 use lib.ListN.{getD}
 use Rattle.lists.specs.Lists.{filled}
 use Rattle.lists.proofs.Tabulate.{getD-tabulate, getD-filled}
-use Rattle.binary.specs.Binary.{bit, darkBit, word, byteOf, packed}
-use Rattle.binary.proofs.Bits.{bit-small, bit-one}
-
--- the digit that has t others below it
-pub word-digit : (p : ℕ → Bool) (s r t : ℕ) → word p s (suc r + t) / 2 ^ t % 2 ≡ bit (p (s + r))
-unfolding word
-word-digit p s r zero = let d = bit-small (p (s + r)) in rw (add-zero, pow-zero, div-one) (omega arith)
-word-digit p s r (suc t) =
-    let d = bit-small (p (s + (suc r + t))) in
-    let up : (word p s (suc r + t) * 2 + bit (p (s + (suc r + t)))) / 2 ≡ word p s (suc r + t) = omega arith in
-    rw (add-suc, pow-succ', ← div-div-eq-div-mul, up) (word-digit p s r t)
+use Rattle.binary.specs.Binary.{darkBit, word, byteOf, packed}
+use Rattle.binary.proofs.Bits.{bit-one}
+use Rattle.binary.proofs.Words.{word-digit}
 
 -- pixel k of a picture whose byte k / 8 is p's
 pub dark-byte : (p : ℕ → Bool) (l : List ℕ) (k : ℕ) → getD l (k / 8) 0 ≡ byteOf p (k / 8) → darkBit l k ≡ p k
 unfolding darkBit
 dark-byte p l k e =
-    let all : 8 ≡ suc (k % 8) + (7 - k % 8) = omega arith in
+    let all : 8 ≡ k % 8 + 1 + (7 - k % 8) = omega arith in
     let at : k / 8 * 8 + k % 8 ≡ k = omega arith in
     let digit = ap (λ (n : ℕ). word p (k / 8 * 8) n / 2 ^ (7 - k % 8) % 2) all ∙ word-digit p (k / 8 * 8) (k % 8) (7 - k % 8) in
     rw (e, digit, at) (bit-one (p k))

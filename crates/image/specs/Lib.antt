@@ -1,2 +1,4 @@
 pub mod Gray
+pub mod Denoise
 pub mod Passed
+pub mod Window

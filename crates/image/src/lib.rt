@@ -2,6 +2,7 @@
 ghost use mathlib.Core.Path.{_≡_};
 ghost use Rattle.image.specs.Gray.{channelsOf, ofByte};
 
+pub mod denoise;
 pub mod gray;
 
 // How a pixel stands in a picture.
