@@ -82,19 +82,31 @@ fn from_triangle(p: &[u8], out: &mut [u8]) -> usize {
 
 fn apply(p: &[u8], out: &mut [u8]) -> usize {
     let t = transform_at(p, 0);
-    put_point(out, 0, t.apply(record::float_at(p, 64), record::float_at(p, 68)));
+    put_point(
+        out,
+        0,
+        t.apply(record::float_at(p, 64), record::float_at(p, 68)),
+    );
     8
 }
 
 fn module_center(p: &[u8], out: &mut [u8]) -> usize {
     let t = transform_at(p, 0);
-    put_point(out, 0, t.module_center(little_endian::get16(p, 64), little_endian::get16(p, 66)));
+    put_point(
+        out,
+        0,
+        t.module_center(little_endian::get16(p, 64), little_endian::get16(p, 66)),
+    );
     8
 }
 
 fn local_pitch(p: &[u8], out: &mut [u8]) -> usize {
     let t = transform_at(p, 0);
-    record::put_float(out, 0, t.local_pitch(little_endian::get16(p, 64), little_endian::get16(p, 66)));
+    record::put_float(
+        out,
+        0,
+        t.local_pitch(little_endian::get16(p, 64), little_endian::get16(p, 66)),
+    );
     4
 }
 
