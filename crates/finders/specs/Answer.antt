@@ -33,7 +33,11 @@ unfoldable pub findRefusal : List ℕ → ℕ → ℕ → ℕ
 findRefusal bits width height =
     firstOf (bitsChecks (length bits) width height ++ (record { refuses = isOver (found bits width height); number = 6 } ∷ []))
 
+-- the finders of a picture: those that are held at the end, most confirmed first
+abbrev pub findersOf : List ℕ → ℕ → ℕ → List Finder
+findersOf bits width height = ranked (heldList (found bits width height))
+
 unfoldable pub answerOf : List ℕ → ℕ → ℕ → Found
 answerOf bits width height =
     let n = findRefusal bits width height in
-    record { refusal = n; finders = tableOf (unless n [] (ranked (heldList (found bits width height)))) }
+    record { refusal = n; finders = tableOf (unless n [] (findersOf bits width height)) }
