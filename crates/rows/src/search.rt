@@ -1,0 +1,218 @@
+// The runs of a row and of a column, and the nearest marker.
+use crate::Marker;
+use crate::Point;
+use crate::window::Window;
+use crate::window::least;
+use binary::dark;
+use binary::line::run_back;
+use binary::line::run_on;
+use float::abs32;
+use float::to_u32;
+ghost use mathlib.Core.Path.{_≡_};
+ghost use Prim.Native.Nat.{_+_, _*_, _≤_, _<_};
+ghost use Rattle.binary.specs.Line.{pixel};
+ghost use Rattle.rows.specs.Rows.{nearOne, matchesOf, middleOf, columnRuns, limitOf, confirmOf, startsAt, rowRuns, seenOf, distanceTo, nearerOf, rowNearest, nearestOf};
+
+// A light, a dark and a light run, and the pixel at which the dark one starts.
+pub struct Runs {
+    pub before: u16,
+    pub dark: u16,
+    pub after: u16,
+    pub start: u16,
+}
+
+// Whether a run is a module long, give or take 0.7 of it.
+fn near(n: u16, module: f32) -> bool
+    ensures { λ r. ⌜ r ≡ nearOne «module» n ⌝ }
+{
+    abs32(n as f32 - module) <= module * 0.7
+}
+
+fn matches_alignment(r: Runs, module: f32) -> bool
+    ensures { λ b. ⌜ b ≡ matchesOf «module» r ⌝ }
+{
+    near(r.before, module) & near(r.dark, module) & near(r.after, module)
+}
+
+// The middle of the dark run.
+fn middle(r: Runs) -> f32
+    ensures { λ x. ⌜ x ≡ middleOf r ⌝ }
+{
+    r.start as f32 + r.dark as f32 / 2.0
+}
+
+// The runs about a dark pixel y of column x, each of `limit` pixels at most from there.
+fn column_runs(bits: &[u8], x: u32, width: u32, height: u16, y: u16, limit: u64) -> Runs
+    requires { ⌜ (y < height) × (height ≤ 4096) ⌝ }
+    ensures { λ r. ⌜ r ≡ columnRuns (pixel (now (bits .entry)) x width) height y limit ⌝ }
+{
+    let up = run_back(bits, x, width, y, least(limit, y), true);
+    let below = y + 1;
+    let down = run_on(bits, x, width, below, least(limit, height - below), true);
+    let top = y - up;
+    let next = below + down;
+    Runs {
+        before: run_back(bits, x, width, top, least(limit, top), false),
+        dark: up + down + 1,
+        after: run_on(bits, x, width, next, least(limit, height - next), false),
+        start: top,
+    }
+}
+
+// Three modules, truncated, and 3 more.
+fn limit_of(module: f32) -> u64
+    ensures { λ r. ⌜ r ≡ limitOf «module» ⌝ }
+{
+    to_u32(module * 3.0) as u64 + 3
+}
+
+// The marker with its centre at cx, confirmed down the column from row y.
+fn confirm_alignment_vertical(
+    bits: &[u8],
+    width: u32,
+    height: u32,
+    cx: f32,
+    y: u16,
+    module: f32,
+) -> Marker
+    requires { ⌜ (y < height) × (height ≤ 4096) ⌝ }
+    ensures { λ r. ⌜ r ≡ confirmOf (now (bits .entry)) width height «module» y cx ⌝ }
+{
+    let x = to_u32(cx);
+    if dark(bits, width, height, x, y as u32) {
+        let r = column_runs(bits, x, width, height as u16, y, limit_of(module));
+        if matches_alignment(r, module) {
+            return Marker::At(Point {
+                x: cx,
+                y: middle(r),
+            });
+        }
+    }
+    Marker::Missing
+}
+
+// Whether a dark run starts at pixel x of row y, after a light pixel.
+fn starts(bits: &[u8], width: u32, height: u32, x: u16, y: u16) -> bool
+    requires { ⌜ 0 < x ⌝ }
+    ensures { λ r. ⌜ r ≡ startsAt (now (bits .entry)) width height y x ⌝ }
+{
+    if dark(bits, width, height, x as u32, y as u32) {
+        !dark(bits, width, height, (x - 1) as u32, y as u32)
+    } else {
+        false
+    }
+}
+
+// The dark run that starts at pixel x of a row, and the light runs on either side, within the columns from first up to end.
+fn row_runs(bits: &[u8], row: u32, first: u16, end: u16, x: u16) -> Runs
+    requires { ⌜ (first < x) × (x < end) ⌝ }
+    ensures { λ r. ⌜ r ≡ rowRuns (pixel (now (bits .entry)) row 1) first end x ⌝ }
+{
+    let dark = run_on(bits, row, 1, x, end - x, true);
+    let next = x + dark;
+    Runs {
+        before: run_back(bits, row, 1, x, x - first, false),
+        dark,
+        after: run_on(bits, row, 1, next, end - next, false),
+        start: x,
+    }
+}
+
+// The marker whose dark run starts at pixel x of row y.
+fn seen_at(
+    bits: &[u8],
+    width: u32,
+    height: u32,
+    first: u16,
+    end: u16,
+    module: f32,
+    y: u16,
+    x: u16,
+) -> Marker
+    requires { ⌜ (width ≤ 4096) × (height ≤ 4096) × (y < height) × (first < x) × (x < end) ⌝ }
+    ensures { λ r. ⌜ r ≡ seenOf (now (bits .entry)) width height first end «module» y x ⌝ }
+{
+    if starts(bits, width, height, x, y) {
+        let r = row_runs(bits, y as u32 * width, first, end, x);
+        if matches_alignment(r, module) {
+            return confirm_alignment_vertical(bits, width, height, middle(r), y, module);
+        }
+    }
+    Marker::Missing
+}
+
+// The squared distance.
+fn distance_to(p: Point, q: Point) -> f32
+    ensures { λ r. ⌜ r ≡ distanceTo p q ⌝ }
+{
+    let dx = q.x - p.x;
+    let dy = q.y - p.y;
+    dx * dx + dy * dy
+}
+
+// The nearer to p of the nearest so far and what is seen; the earlier one where neither is nearer.
+fn nearer(p: Point, best: Marker, seen: Marker) -> Marker
+    ensures { λ r. ⌜ r ≡ nearerOf p best seen ⌝ }
+{
+    match seen {
+        Marker::At(s) => match best {
+            Marker::At(b) => {
+                if distance_to(p, s) < distance_to(p, b) {
+                    seen
+                } else {
+                    best
+                }
+            }
+            Marker::Missing => seen,
+        },
+        Marker::Missing => best,
+    }
+}
+
+// Row y.
+fn search_row(
+    bits: &[u8],
+    width: u32,
+    height: u32,
+    first: u16,
+    end: u16,
+    p: Point,
+    module: f32,
+    best: Marker,
+    y: u16,
+) -> Marker
+    requires { ⌜ (width ≤ 4096) × (height ≤ 4096) × (y < height) × (first ≤ 4096) ⌝ }
+    ensures { λ r. ⌜ r ≡ rowNearest (now (bits .entry)) width height first end p «module» best y ⌝ }
+{
+    let mut b = best;
+    let mut x = first + 1;
+    while x < end {
+        b = nearer(p, b, seen_at(bits, width, height, first, end, module, y, x));
+        x += 1;
+    }
+    b
+}
+
+// The marker nearest to p in the window.
+pub fn nearest_marker(
+    bits: &[u8],
+    width: u32,
+    height: u32,
+    window: Window,
+    p: Point,
+    module: f32,
+) -> Marker
+    requires { ⌜ (width ≤ 4096) × (height ≤ 4096) × (window .first ≤ 4096) × (window .bottom ≤ height) ⌝ }
+    ensures { λ r. ⌜ r ≡ nearestOf (now (bits .entry)) width height window p «module» ⌝ }
+{
+    let first = window.first;
+    let end = window.end;
+    let bottom = window.bottom;
+    let mut b = Marker::Missing;
+    let mut y = window.top;
+    while y < bottom {
+        b = search_row(bits, width, height, first, end, p, module, b, y);
+        y += 1;
+    }
+    b
+}
