@@ -15,7 +15,8 @@ use Rattle.lcr_core.specs.Outcome.{unless}
 use Rattle.binary.specs.Binary.{darkAt}
 use Rattle.binary.specs.Line.{row, column, run, runBack}
 use Rattle.binary.specs.Refusal.{bitsRefusal}
-use Rattle.rows.specs.declared.Point.{Point}
+use Rattle.transform.specs.Apply.{distance2Of}
+use Rattle.transform.specs.declared.Point.{Point}
 use Rattle.rows.specs.declared.Marker.{Marker}
 use Rattle.rows.specs.declared.Marker.the-variants.{At, Missing}
 use Rattle.rows.specs.declared.Located.{Located}
@@ -121,15 +122,11 @@ module _ (bits : List ℕ) (w h first end : ℕ) (m : Float) (y : ℕ) where
 
 -- ---- the nearest
 
--- the squared distance
-unfoldable pub distanceTo : Point → Point → Float
-distanceTo p q = plus32 (times32 (minus32 (q .x) (p .x)) (minus32 (q .x) (p .x))) (times32 (minus32 (q .y) (p .y)) (minus32 (q .y) (p .y)))
-
--- the nearer to p; the earlier one where the later is not nearer
+-- the nearer to p by the squared distance; the earlier one where the later is not nearer
 unfoldable pub nearerOf : Point → Marker → Marker → Marker
 nearerOf p best Missing = best
 nearerOf p Missing (At s) = At s
-nearerOf p (At b) (At s) = cond (lt (distanceTo p s) (distanceTo p b)) (At s) (At b)
+nearerOf p (At b) (At s) = cond (lt (distance2Of s p) (distance2Of b p)) (At s) (At b)
 
 module _ (bits : List ℕ) (w h first end : ℕ) (p : Point) (m : Float) where
   abbrev pub visit : ℕ → Marker → ℕ → Marker

@@ -1,17 +1,13 @@
 // The search for the alignment marker along rows: light, dark and light runs of a module each, confirmed down their column.
 use binary::refusal::check_bits;
 use search::nearest_marker;
+use transform::Point;
 use window::window_about;
 ghost use mathlib.Core.Path.{_≡_};
 ghost use Rattle.rows.specs.Rows.{findOf};
 
 mod search;
 mod window;
-
-pub struct Point {
-    pub x: f32,
-    pub y: f32,
-}
 
 pub enum Marker {
     At(Point),

@@ -1,6 +1,5 @@
 // The runs of a row and of a column, and the nearest marker.
 use crate::Marker;
-use crate::Point;
 use crate::window::Window;
 use crate::window::least;
 use binary::dark;
@@ -8,10 +7,12 @@ use binary::line::run_back;
 use binary::line::run_on;
 use float::abs32;
 use float::to_u32;
+use transform::Point;
+use transform::distance2;
 ghost use mathlib.Core.Path.{_≡_};
 ghost use Prim.Native.Nat.{_+_, _*_, _≤_, _<_};
 ghost use Rattle.binary.specs.Line.{pixel};
-ghost use Rattle.rows.specs.Rows.{nearOne, matchesOf, middleOf, columnRuns, limitOf, confirmOf, startsAt, rowRuns, seenOf, distanceTo, nearerOf, rowNearest, nearestOf};
+ghost use Rattle.rows.specs.Rows.{nearOne, matchesOf, middleOf, columnRuns, limitOf, confirmOf, startsAt, rowRuns, seenOf, nearerOf, rowNearest, nearestOf};
 
 // A light, a dark and a light run, and the pixel at which the dark one starts.
 pub struct Runs {
@@ -141,15 +142,6 @@ fn seen_at(
     Marker::Missing
 }
 
-// The squared distance.
-fn distance_to(p: Point, q: Point) -> f32
-    ensures { λ r. ⌜ r ≡ distanceTo p q ⌝ }
-{
-    let dx = q.x - p.x;
-    let dy = q.y - p.y;
-    dx * dx + dy * dy
-}
-
 // The nearer to p of the nearest so far and what is seen; the earlier one where neither is nearer.
 fn nearer(p: Point, best: Marker, seen: Marker) -> Marker
     ensures { λ r. ⌜ r ≡ nearerOf p best seen ⌝ }
@@ -157,7 +149,7 @@ fn nearer(p: Point, best: Marker, seen: Marker) -> Marker
     match seen {
         Marker::At(s) => match best {
             Marker::At(b) => {
-                if distance_to(p, s) < distance_to(p, b) {
+                if distance2(s, p) < distance2(b, p) {
                     seen
                 } else {
                     best

@@ -1,7 +1,7 @@
 // The part of the picture that is searched. An i32 is split into its positive and its negative part, so that no sum overflows.
-use crate::Point;
 use float::max32;
 use float::to_u32;
+use transform::Point;
 ghost use mathlib.Core.Path.{_≡_};
 ghost use Prim.Native.Nat.{_+_, _-_, _≤_, _<_, _^_, min};
 ghost use lib.Ieee.{toSigned};

@@ -10,11 +10,11 @@ enum-known-seen c = search needs
 enum-known-best : tie.Need-enum-known-best
 enum-known-best c = search needs
 
-distance-to-requires : tie.Need-distance-to-requires
-distance-to-requires c κs = search needs
+distance2-requires : tie.Need-distance2-requires
+distance2-requires c κs = search needs
 
-distance-to-requires-2 : tie.Need-distance-to-requires-2
-distance-to-requires-2 c κs = search needs
+distance2-requires-2 : tie.Need-distance2-requires-2
+distance2-requires-2 c κs = search needs
 
 enum-told : tie.Need-enum-told
 enum-told c = search needs
@@ -24,11 +24,11 @@ enum-told-2 c = search needs
 
 returns : tie.Need-returns
 unfolding nearerOf
-returns c = rw (c .before .before .before .before .before .before .before .seen .given .1, c .before .before .before .before .best .given .1, ← c .before .before .distance-to .ensures, ← c .before .distance-to2 .ensures, c .if1 .taken)
+returns c = rw (c .before .before .before .before .before .before .before .seen .given .1, c .before .before .before .before .best .given .1, ← c .before .before .distance2 .ensures, ← c .before .distance22 .ensures, c .if1 .taken)
 
 returns-2 : tie.Need-returns-2
 unfolding nearerOf
-returns-2 c = rw (c .before .before .before .before .before .before .before .seen .given .1, c .before .before .before .before .best .given .1, ← c .before .before .distance-to .ensures, ← c .before .distance-to2 .ensures, c .if1 .left)
+returns-2 c = rw (c .before .before .before .before .before .before .before .seen .given .1, c .before .before .before .before .best .given .1, ← c .before .before .distance2 .ensures, ← c .before .distance22 .ensures, c .if1 .left)
 
 returns-3 : tie.Need-returns-3
 unfolding nearerOf
@@ -44,8 +44,8 @@ nearer-spec =
     (tie.spec
     enum-known-seen
     enum-known-best
-    distance-to-requires
-    distance-to-requires-2
+    distance2-requires
+    distance2-requires-2
     enum-told
     enum-told-2
     returns

@@ -1,0 +1,3 @@
+pub mod Taps
+pub mod Scores
+pub mod Refusals

@@ -1,0 +1,40 @@
+-- The alignment functions. Document 01: refusals "1, 2, 4, 7"; "Alignment: none below version 2", the template match (specs/Template.antt), "if no site has 23, `find_alignment`
+-- searches the rows" (crate rows), and `refine_alignment` "answers none but keeps the transform it was given". Definitions only.
+use Prim.Native.Nat.{ℕ}
+use mathlib.Core.Bool.{not, cond}
+use mathlib.Core.List.{List, [], _∷_, _++_}
+use lib.Dec.{ltb}
+use lib.ListN.{length}
+use lib.Ieee.{Float}
+use Rattle.lcr_core.specs.Outcome.{firstOf}
+use Rattle.lcr_core.specs.Version.{valid}
+use Rattle.binary.specs.Refusal.{bitsChecks}
+use Rattle.rows.specs.Rows.{answer, findOf}
+use Rattle.rows.specs.declared.Marker.{Marker}
+use Rattle.rows.specs.declared.Marker.the-variants.{At, Missing}
+use Rattle.rows.specs.declared.Located.{Located}
+use Rattle.transform.specs.Apply.{applied}
+use Rattle.transform.specs.declared.Transform.{Transform}
+use Rattle.alignment.specs.Template.{centreOf, matchedOf}
+
+-- 1, 2, 4, then 7: the version is outside 1 to 64
+unfoldable pub alignmentRefusal : ℕ → ℕ → ℕ → ℕ → ℕ
+alignmentRefusal len w h version = firstOf (bitsChecks len w h ++ (record { refuses = not (valid version); number = 7 } ∷ []))
+
+-- `match_alignment`
+unfoldable pub matchOf : List ℕ → ℕ → ℕ → Transform → ℕ → Located
+matchOf bits w h t version = answer (alignmentRefusal (length bits) w h version) (matchedOf bits w h t version)
+
+-- `locate_alignment`: none below version 2; the template match, or else the search about the place where the transform puts the marker's centre
+abbrev pub orElse : Marker → Marker → Marker
+orElse (At p) other = At p
+orElse Missing other = other
+
+unfoldable pub searchedOf : List ℕ → ℕ → ℕ → Transform → ℕ → Float → Marker
+searchedOf bits w h t version m = let c = centreOf version in findOf bits w h (applied t c c) m .marker
+
+unfoldable pub locatedOf : List ℕ → ℕ → ℕ → Transform → ℕ → Float → Marker
+locatedOf bits w h t version m = cond (ltb version 2) Missing (orElse (matchedOf bits w h t version) (searchedOf bits w h t version m))
+
+unfoldable pub locateOf : List ℕ → ℕ → ℕ → Transform → ℕ → Float → Located
+locateOf bits w h t version m = answer (alignmentRefusal (length bits) w h version) (locatedOf bits w h t version m)

@@ -1,0 +1,111 @@
+// The alignment marker: a template match through the transform, and a search along rows where that finds none.
+use binary::refusal::check_bits;
+use lcr_core::number;
+use lcr_core::version::Checked;
+use lcr_core::version::Version;
+use rows::Located;
+use rows::Marker;
+use rows::find_alignment;
+use template::centre;
+use template::matched;
+use transform::Transform;
+ghost use mathlib.Core.Path.{_≡_};
+ghost use Prim.Native.Nat.{_≤_};
+ghost use Rattle.alignment.specs.Alignment.{alignmentRefusal, matchOf, searchedOf, locatedOf, locateOf};
+
+mod template;
+
+// Refusal 1, 2, 4 or 7, in this order, or 0.
+fn check(len: usize, width: u32, height: u32, version: u8) -> u8
+    ensures { λ r. ⌜ r ≡ alignmentRefusal len width height version ⌝ }
+{
+    let refusal = number(check_bits(len, width, height));
+    if refusal != 0 {
+        return refusal;
+    }
+    match Version::new(version) {
+        Checked::Is(_) => 0,
+        Checked::Refused => 7,
+    }
+}
+
+// The marker by its 5 × 5 modules, through the transform.
+pub fn match_alignment(
+    bits: &[u8],
+    width: u32,
+    height: u32,
+    t: Transform,
+    version: u8,
+) -> Located
+    ensures { λ r. ⌜ r ≡ matchOf (now (bits .entry)) width height t version ⌝ }
+{
+    let refusal = check(bits.len(), width, height, version);
+    if refusal != 0 {
+        return Located {
+            refusal,
+            marker: Marker::Missing,
+        };
+    }
+    let marker = matched(bits, width as u16, height as u16, t, version);
+    Located { refusal: 0, marker }
+}
+
+// The marker by runs along rows, about the place where the transform puts its centre.
+fn searched(
+    bits: &[u8],
+    width: u32,
+    height: u32,
+    t: Transform,
+    version: u8,
+    module: f32,
+) -> Marker
+    ensures { λ r. ⌜ r ≡ searchedOf (now (bits .entry)) width height t version «module» ⌝ }
+{
+    let c = centre(version);
+    let found = find_alignment(bits, width, height, t.apply(c, c), module);
+    let marker = found.marker;
+    marker
+}
+
+// The marker by its modules, or else by runs along rows.
+fn located(
+    bits: &[u8],
+    width: u32,
+    height: u32,
+    t: Transform,
+    version: u8,
+    module: f32,
+) -> Marker
+    requires { ⌜ (width ≤ 4096) × (height ≤ 4096) ⌝ }
+    ensures { λ r. ⌜ r ≡ locatedOf (now (bits .entry)) width height t version «module» ⌝ }
+{
+    if version < 2 {
+        return Marker::Missing;
+    }
+    match matched(bits, width as u16, height as u16, t, version) {
+        Marker::At(p) => Marker::At(p),
+        Marker::Missing => searched(bits, width, height, t, version, module),
+    }
+}
+
+// The same, refused where the picture or the version is.
+pub fn locate_alignment(
+    bits: &[u8],
+    width: u32,
+    height: u32,
+    t: Transform,
+    version: u8,
+    module: f32,
+) -> Located
+    ensures { λ r. ⌜ r ≡ locateOf (now (bits .entry)) width height t version «module» ⌝ }
+{
+    let refusal = check(bits.len(), width, height, version);
+    if refusal != 0 {
+        return Located {
+            refusal,
+            marker: Marker::Missing,
+        };
+    }
+    let marker = located(bits, width, height, t, version, module);
+    Located { refusal: 0, marker }
+}
