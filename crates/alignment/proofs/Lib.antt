@@ -1,3 +1,4 @@
 pub mod Taps
 pub mod Scores
 pub mod Refusals
+pub mod Refining

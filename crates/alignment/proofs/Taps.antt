@@ -11,10 +11,11 @@ use Rattle.lists.specs.Lists.{folded}
 use Rattle.float.specs.Constants.{f0, quarter}
 use Rattle.binary.specs.Binary.{bit}
 use Rattle.binary.proofs.Bits.{bit-small}
+use Rattle.geometry.specs.Order.{point}
 use Rattle.transform.specs.declared.Point.{Point}
 use Rattle.transform.specs.declared.Transform.{Transform}
 use Rattle.alignment.specs.declared.template.Votes.{Votes}
-use Rattle.alignment.specs.Template.{point, outsideOf, pixelAt, tapped, tapBy, noVotes, moduleDark}
+use Rattle.alignment.specs.Template.{outsideOf, pixelAt, tapped, tapBy, noVotes, moduleDark}
 use Rattle.alignment.specs.Counting.{Counted}
 
 pub bit-most : (d : Bool) → bit d ≤ 1

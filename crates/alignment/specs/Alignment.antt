@@ -6,15 +6,20 @@ use mathlib.Core.List.{List, [], _∷_, _++_}
 use lib.Dec.{ltb}
 use lib.ListN.{length}
 use lib.Ieee.{Float}
-use Rattle.lcr_core.specs.Outcome.{firstOf}
+use Rattle.lcr_core.specs.Outcome.{firstOf, unless}
 use Rattle.lcr_core.specs.Version.{valid}
 use Rattle.binary.specs.Refusal.{bitsChecks}
+use Rattle.transform.specs.Fit.{zeroTransform}
+use Rattle.transform.specs.declared.Fit.{Fit}
+use Rattle.geometry.specs.Build.{builtOf}
+use Rattle.geometry.specs.declared.Corners.{Corners}
 use Rattle.rows.specs.Rows.{answer, findOf}
-use Rattle.rows.specs.declared.Marker.{Marker}
-use Rattle.rows.specs.declared.Marker.the-variants.{At, Missing}
+use Rattle.geometry.specs.declared.Marker.{Marker}
+use Rattle.geometry.specs.declared.Marker.the-variants.{At, Missing}
 use Rattle.rows.specs.declared.Located.{Located}
 use Rattle.transform.specs.Apply.{applied}
 use Rattle.transform.specs.declared.Transform.{Transform}
+use Rattle.alignment.specs.declared.Refined.{Refined}
 use Rattle.alignment.specs.Template.{centreOf, matchedOf}
 
 -- 1, 2, 4, then 7: the version is outside 1 to 64
@@ -38,3 +43,20 @@ locatedOf bits w h t version m = cond (ltb version 2) Missing (orElse (matchedOf
 
 unfoldable pub locateOf : List ℕ → ℕ → ℕ → Transform → ℕ → Float → Located
 locateOf bits w h t version m = answer (alignmentRefusal (length bits) w h version) (locatedOf bits w h t version m)
+
+-- `refine_alignment`: the transform through the finders and the marker; without a marker, or where there is no such transform, the one given
+abbrev pub orGiven : Fit → Transform → Transform
+orGiven f t = cond (f .found) (f .transform) t
+
+unfoldable pub rebuiltOf : Corners → Marker → ℕ → Transform → Transform
+rebuiltOf corners Missing version t = t
+rebuiltOf corners (At p) version t = orGiven (builtOf corners (At p) version .fit) t
+
+-- a refusal's number, with every other field zero, or the transform and the marker
+abbrev pub refined : ℕ → Transform → Marker → Refined
+refined n t a = record { refusal = n; transform = unless n zeroTransform t; marker = unless n Missing a }
+
+unfoldable pub refineOf : List ℕ → ℕ → ℕ → Corners → ℕ → Transform → Float → Refined
+refineOf bits w h corners version t m =
+    let a = locatedOf bits w h t version m in
+    refined (alignmentRefusal (length bits) w h version) (rebuiltOf corners a version t) a

@@ -11,16 +11,14 @@ use Rattle.float.specs.Steps.{plus32, minus32, times32, whole32}
 use Rattle.float.specs.Constants.{f0, quarter, half, f1/8, f1/32, f6·5}
 use Rattle.binary.specs.Binary.{bit, darkAt}
 use Rattle.lcr_core.specs.Version.{sideOf}
-use Rattle.rows.specs.declared.Marker.{Marker}
-use Rattle.rows.specs.declared.Marker.the-variants.{At, Missing}
+use Rattle.geometry.specs.Order.{point}
+use Rattle.geometry.specs.declared.Marker.{Marker}
+use Rattle.geometry.specs.declared.Marker.the-variants.{At, Missing}
 use Rattle.transform.specs.Apply.{applied}
 use Rattle.transform.specs.declared.Point.{Point}
 use Rattle.transform.specs.declared.Transform.{Transform}
 use Rattle.alignment.specs.declared.template.Votes.{Votes}
 use Rattle.alignment.specs.declared.template.Site.{Site}
-
-abbrev pub point : Float → Float → Point
-point x y = record { x = x; y = y }
 
 -- ---- a module: the majority of five taps, those outside the picture left out
 

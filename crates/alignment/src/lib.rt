@@ -1,19 +1,28 @@
 // The alignment marker: a template match through the transform, and a search along rows where that finds none.
 use binary::refusal::check_bits;
+use geometry::Corners;
+use geometry::Marker;
+use geometry::build_transform;
 use lcr_core::number;
 use lcr_core::version::Checked;
 use lcr_core::version::Version;
 use rows::Located;
-use rows::Marker;
 use rows::find_alignment;
 use template::centre;
 use template::matched;
 use transform::Transform;
 ghost use mathlib.Core.Path.{_≡_};
 ghost use Prim.Native.Nat.{_≤_};
-ghost use Rattle.alignment.specs.Alignment.{alignmentRefusal, matchOf, searchedOf, locatedOf, locateOf};
+ghost use Rattle.alignment.specs.Alignment.{alignmentRefusal, matchOf, searchedOf, locatedOf, locateOf, rebuiltOf, refineOf};
 
 mod template;
+
+// A transform with the marker that it is built through, if there is one; or a refusal, and then zeros and none.
+pub struct Refined {
+    pub refusal: u8,
+    pub transform: Transform,
+    pub marker: Marker,
+}
 
 // Refusal 1, 2, 4 or 7, in this order, or 0.
 fn check(len: usize, width: u32, height: u32, version: u8) -> u8
@@ -35,30 +44,24 @@ pub fn match_alignment(
     width: u32,
     height: u32,
     t: Transform,
-    version: u8,
+    version: Version,
 ) -> Located
-    ensures { λ r. ⌜ r ≡ matchOf (now (bits .entry)) width height t version ⌝ }
+    ensures { λ r. ⌜ r ≡ matchOf (now (bits .entry)) width height t (version .0) ⌝ }
 {
-    let refusal = check(bits.len(), width, height, version);
+    let v = version.0;
+    let refusal = check(bits.len(), width, height, v);
     if refusal != 0 {
         return Located {
             refusal,
             marker: Marker::Missing,
         };
     }
-    let marker = matched(bits, width as u16, height as u16, t, version);
+    let marker = matched(bits, width as u16, height as u16, t, v);
     Located { refusal: 0, marker }
 }
 
 // The marker by runs along rows, about the place where the transform puts its centre.
-fn searched(
-    bits: &[u8],
-    width: u32,
-    height: u32,
-    t: Transform,
-    version: u8,
-    module: f32,
-) -> Marker
+fn searched(bits: &[u8], width: u32, height: u32, t: Transform, version: u8, module: f32) -> Marker
     ensures { λ r. ⌜ r ≡ searchedOf (now (bits .entry)) width height t version «module» ⌝ }
 {
     let c = centre(version);
@@ -68,14 +71,7 @@ fn searched(
 }
 
 // The marker by its modules, or else by runs along rows.
-fn located(
-    bits: &[u8],
-    width: u32,
-    height: u32,
-    t: Transform,
-    version: u8,
-    module: f32,
-) -> Marker
+fn located(bits: &[u8], width: u32, height: u32, t: Transform, version: u8, module: f32) -> Marker
     requires { ⌜ (width ≤ 4096) × (height ≤ 4096) ⌝ }
     ensures { λ r. ⌜ r ≡ locatedOf (now (bits .entry)) width height t version «module» ⌝ }
 {
@@ -94,18 +90,67 @@ pub fn locate_alignment(
     width: u32,
     height: u32,
     t: Transform,
-    version: u8,
+    version: Version,
     module: f32,
 ) -> Located
-    ensures { λ r. ⌜ r ≡ locateOf (now (bits .entry)) width height t version «module» ⌝ }
+    ensures { λ r. ⌜ r ≡ locateOf (now (bits .entry)) width height t (version .0) «module» ⌝ }
 {
-    let refusal = check(bits.len(), width, height, version);
+    let v = version.0;
+    let refusal = check(bits.len(), width, height, v);
     if refusal != 0 {
         return Located {
             refusal,
             marker: Marker::Missing,
         };
     }
-    let marker = located(bits, width, height, t, version, module);
+    let marker = located(bits, width, height, t, v, module);
     Located { refusal: 0, marker }
+}
+
+// The transform through the finders and the marker; the one given where there is no marker or no such transform.
+fn rebuilt(corners: Corners, marker: Marker, version: Version, transform: Transform) -> Transform
+    ensures { λ r. ⌜ r ≡ rebuiltOf corners marker (version .0) transform ⌝ }
+{
+    match marker {
+        Marker::At(p) => {
+            let built = build_transform(corners, Marker::At(p), version);
+            let fit = built.fit;
+            if fit.found {
+                let t = fit.transform;
+                return t;
+            }
+            transform
+        }
+        Marker::Missing => transform,
+    }
+}
+
+// The marker again, through a better transform, and the transform through it.
+pub fn refine_alignment(
+    bits: &[u8],
+    width: u32,
+    height: u32,
+    corners: Corners,
+    version: Version,
+    transform: Transform,
+    module: f32,
+) -> Refined
+    ensures { λ r. ⌜ r ≡ refineOf (now (bits .entry)) width height corners (version .0) transform «module» ⌝ }
+{
+    let v = version.0;
+    let refusal = check(bits.len(), width, height, v);
+    if refusal != 0 {
+        return Refined {
+            refusal,
+            transform: Transform::zero(),
+            marker: Marker::Missing,
+        };
+    }
+    let marker = located(bits, width, height, transform, v, module);
+    let transform = rebuilt(corners, marker, version, transform);
+    Refined {
+        refusal: 0,
+        transform,
+        marker,
+    }
 }

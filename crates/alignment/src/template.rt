@@ -1,8 +1,8 @@
 // The template match: the site at which most of the marker's 25 modules have their colour.
 use binary::dark;
 use float::to_u32;
+use geometry::Marker;
 use lcr_core::version::Version;
-use rows::Marker;
 use transform::Point;
 use transform::Transform;
 ghost use mathlib.Core.Path.{_≡_};

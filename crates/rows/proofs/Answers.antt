@@ -3,8 +3,8 @@ use mathlib.Core.Path.{_≡_, refl, ap}
 use Prim.Native.Nat.{ℕ, zero, suc}
 use Rattle.lcr_core.proofs.Checks.{unless-refused}
 use Rattle.rows.specs.Rows.{answer}
-use Rattle.rows.specs.declared.Marker.{Marker}
-use Rattle.rows.specs.declared.Marker.the-variants.{Missing}
+use Rattle.geometry.specs.declared.Marker.{Marker}
+use Rattle.geometry.specs.declared.Marker.the-variants.{Missing}
 use Rattle.rows.specs.declared.Located.{Located}
 
 pub refused : (r n : ℕ) (m : Marker) → (r ≡ 0 → ⊥) → r ≡ n → _≡_ {A = Located} (record { refusal = r; marker = Missing }) (answer n m)

@@ -17,8 +17,9 @@ use Rattle.binary.specs.Line.{row, column, run, runBack}
 use Rattle.binary.specs.Refusal.{bitsRefusal}
 use Rattle.transform.specs.Apply.{distance2Of}
 use Rattle.transform.specs.declared.Point.{Point}
-use Rattle.rows.specs.declared.Marker.{Marker}
-use Rattle.rows.specs.declared.Marker.the-variants.{At, Missing}
+use Rattle.geometry.specs.Order.{point}
+use Rattle.geometry.specs.declared.Marker.{Marker}
+use Rattle.geometry.specs.declared.Marker.the-variants.{At, Missing}
 use Rattle.rows.specs.declared.Located.{Located}
 use Rattle.rows.specs.declared.window.Window.{Window}
 use Rattle.rows.specs.declared.search.Runs.{Runs}
@@ -92,7 +93,7 @@ limitOf m = toUnsigned 32 (times32 m f3) + 3
 
 -- the marker with its centre at x across and in the middle of the column's dark run down, where the column's runs match
 abbrev pub markerAt : Float → Float → Runs → Marker
-markerAt m x r = cond (matchesOf m r) (At (record { x = x; y = middleOf r })) Missing
+markerAt m x r = cond (matchesOf m r) (At (point x (middleOf r))) Missing
 
 module _ (bits : List ℕ) (w h : ℕ) where
   -- the column is that of the pixel which x lies in, and the dark run the one about its row y

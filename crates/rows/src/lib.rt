@@ -1,5 +1,6 @@
 // The search for the alignment marker along rows: light, dark and light runs of a module each, confirmed down their column.
 use binary::refusal::check_bits;
+use geometry::Marker;
 use search::nearest_marker;
 use transform::Point;
 use window::window_about;
@@ -8,11 +9,6 @@ ghost use Rattle.rows.specs.Rows.{findOf};
 
 mod search;
 mod window;
-
-pub enum Marker {
-    At(Point),
-    Missing,
-}
 
 // The marker, or none; or a refusal, and then none.
 pub struct Located {

@@ -1,5 +1,4 @@
 // The runs of a row and of a column, and the nearest marker.
-use crate::Marker;
 use crate::window::Window;
 use crate::window::least;
 use binary::dark;
@@ -7,6 +6,7 @@ use binary::line::run_back;
 use binary::line::run_on;
 use float::abs32;
 use float::to_u32;
+use geometry::Marker;
 use transform::Point;
 use transform::distance2;
 ghost use mathlib.Core.Path.{_≡_};

@@ -1,48 +1,36 @@
+-- `alignment::located` meets its contract. Assumes nothing.
 use borrow.Author.Tests.{lt-ltb, le-ltb}
 use Rattle.alignment.specs.Alignment.{locatedOf}
 use borrow.Author.Needs.{needs}
 use Rattle.alignment.proofs.located.Statement.{statement}
 use Rattle.alignment.proofs.located.Tie as tie
-use Rattle.alignment.proofs.located.Reads as reads
-use Rattle.alignment.proofs.located.Lts as lts
-use Rattle.alignment.proofs.searched.Reads as searched-reads
-use Rattle.alignment.proofs.template.matched.Reads as matched-reads
 
--- src/lib.rt:83:9
 returns : tie.Need-returns
 unfolding locatedOf
 returns c = rw (lt-ltb _ _ (c .if1 .taken))
 
--- src/lib.rt:85:25
 cast-matched : tie.Need-cast-matched
 cast-matched c = search needs
 
--- src/lib.rt:85:39
 cast-matched-2 : tie.Need-cast-matched-2
 cast-matched-2 c = search needs
 
--- src/lib.rt:85:11
 matched-requires : tie.Need-matched-requires
 matched-requires c κs = search needs
 
--- src/lib.rt:86:20
 enum-known-p : tie.Need-enum-known-p
 enum-known-p c = search needs
 
--- src/lib.rt:87:28
 enum-told : tie.Need-enum-told
 enum-told c = search needs
 
--- src/lib.rt:87:28
 searched-requires : tie.Need-searched-requires
 searched-requires c κs = search needs
 
--- src/lib.rt:71:1
 returns-2 : tie.Need-returns-2
 unfolding locatedOf
 returns-2 c = rw (le-ltb _ _ (c .before .before .before .before .if1 .left), ← c .before .before .before .matched .ensures, c .before .p .given .1)
 
--- src/lib.rt:71:1
 returns-3 : tie.Need-returns-3
 unfolding locatedOf
 returns-3 c = rw (le-ltb _ _ (c .before .before .before .before .if1 .left), ← c .before .before .before .matched .ensures, c .before .enum-told .given .1) (c .searched .ensures)

@@ -1,3 +1,4 @@
+-- `alignment::match_alignment` meets its contract. Assumes nothing.
 use native.Mathlib.Omega.{arith}
 use mathlib.Core.Path.{sym, _∙_}
 use Rattle.lcr_core.specs.Passed.{Sides}
@@ -7,12 +8,7 @@ use Rattle.alignment.specs.Alignment.{matchOf}
 use borrow.Author.Needs.{needs}
 use Rattle.alignment.proofs.match_alignment.Statement.{statement}
 use Rattle.alignment.proofs.match_alignment.Tie as tie
-use Rattle.alignment.proofs.match_alignment.Reads as reads
-use Rattle.alignment.proofs.match_alignment.Lts as lts
-use Rattle.alignment.proofs.check.Reads as check-reads
-use Rattle.alignment.proofs.template.matched.Reads as matched-reads
 
--- src/lib.rt:42:9
 -- the sides of a picture that is not refused
 sides : (c : tie.Else1) → Sides (c .before .before .before .args .width) (c .before .before .before .args .height)
 sides c = passed _ _ _ _ (sym (c .before .check .ensures) ∙ c .if1 .left)
@@ -20,24 +16,19 @@ sides c = passed _ _ _ _ (sym (c .before .check .ensures) ∙ c .if1 .left)
 check-requires : tie.Need-check-requires
 check-requires c κs = search needs
 
--- src/lib.rt:44:9
 returns : tie.Need-returns
 unfolding matchOf
 returns c = refused _ _ _ (c .if1 .taken) (c .before .check .ensures)
 
--- src/lib.rt:49:32
 cast-matched : tie.Need-cast-matched
 cast-matched c = omega (arith, sides c)
 
--- src/lib.rt:49:46
 cast-matched-2 : tie.Need-cast-matched-2
 cast-matched-2 c = omega (arith, sides c)
 
--- src/lib.rt:49:9
 matched-requires : tie.Need-matched-requires
 matched-requires c κs = search needs
 
--- src/lib.rt:33:1
 returns-2 : tie.Need-returns-2
 unfolding matchOf
 returns-2 c = done _ _ _ _ (c .before .if1 .left) (c .before .before .check .ensures) (c .matched .ensures)

@@ -1,25 +1,19 @@
+-- `alignment::template::best_site` meets its contract. Assumes nothing.
 use lib.Ieee.{ofBits, div}
 use Rattle.alignment.specs.Template.{bestOf}
 use borrow.Author.Needs.{needs}
 use Rattle.alignment.proofs.template.best_site.Statement.{statement}
 use Rattle.alignment.proofs.template.best_site.Tie as tie
-use Rattle.alignment.proofs.template.best_site.Reads as reads
-use Rattle.alignment.proofs.template.best_site.Lts as lts
-use Rattle.alignment.proofs.template.sweep.Reads as sweep-reads
 
--- src/template.rt:214:9
 sweep-requires : tie.Need-sweep-requires
 sweep-requires c κs = search needs
 
--- src/template.rt:215:9
 sweep-requires-2 : tie.Need-sweep-requires-2
 sweep-requires-2 c κs = search needs
 
--- src/template.rt:216:5
 sweep-requires-3 : tie.Need-sweep-requires-3
 sweep-requires-3 c κs = search needs
 
--- src/template.rt:205:1
 returns : tie.Need-returns
 unfolding bestOf ofBits div
 returns c = rw (c .sweep3 .ensures, c .before .sweep2 .ensures, c .before .before .sweep .ensures)

@@ -1,37 +1,27 @@
+-- `alignment::template::matched` meets its contract. Assumes nothing.
 use borrow.Author.Tests.{lt-ltb, le-ltb}
 use Rattle.alignment.specs.Template.{matchedOf}
 use borrow.Author.Needs.{needs}
 use Rattle.alignment.proofs.template.matched.Statement.{statement}
 use Rattle.alignment.proofs.template.matched.Tie as tie
-use Rattle.alignment.proofs.template.matched.Reads as reads
-use Rattle.alignment.proofs.template.matched.Lts as lts
-use Rattle.alignment.proofs.template.best_site.Reads as best-site-reads
-use Rattle.alignment.proofs.template.centre.Reads as centre-reads
-use Rattle.transform.proofs.Transform.apply.Reads as apply-reads
 
--- src/template.rt:237:9
 returns : tie.Need-returns
 unfolding matchedOf
 returns c = rw (lt-ltb _ _ (c .if1 .taken))
 
--- src/template.rt:239:9
 centre-requires : tie.Need-centre-requires
 centre-requires c κs = search needs
 
--- src/template.rt:240:9
 best-site-requires : tie.Need-best-site-requires
 best-site-requires c κs = search needs
 
--- src/template.rt:242:9
 returns-2 : tie.Need-returns-2
 unfolding matchedOf
 returns-2 c = rw (le-ltb _ _ (c .before .before .before .before .if1 .left), ← c .before .before .before .centre .ensures, ← c .before .before .best-site .ensures, lt-ltb _ _ (c .if2 .taken))
 
--- src/template.rt:244:16
 apply-requires : tie.Need-apply-requires
 apply-requires c κs = search needs
 
--- src/template.rt:233:1
 returns-3 : tie.Need-returns-3
 unfolding matchedOf
 returns-3 c = rw (le-ltb _ _ (c .before .before .before .before .before .before .before .if1 .left), ← c .before .before .before .before .before .before .centre .ensures, ← c .before .before .before .before .before .best-site .ensures, le-ltb _ _ (c .before .before .before .if2 .left), c .apply .ensures)

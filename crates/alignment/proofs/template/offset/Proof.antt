@@ -1,3 +1,4 @@
+-- `alignment::template::offset` meets its contract. Assumes nothing.
 use native.Mathlib.Omega.{arith}
 use borrow.Author.Tests.{le-leb, lt-leb}
 use Prim.Native.Nat.{_-_, suc}
@@ -7,27 +8,20 @@ use Rattle.alignment.specs.Template.{less}
 use borrow.Author.Needs.{needs}
 use Rattle.alignment.proofs.template.offset.Statement.{statement}
 use Rattle.alignment.proofs.template.offset.Tie as tie
-use Rattle.alignment.proofs.template.offset.Reads as reads
-use Rattle.alignment.proofs.template.offset.Lts as lts
 
--- src/template.rt:100:9
 int-to-float-result : tie.Need-int-to-float-result
 int-to-float-result c = search needs
 
--- src/template.rt:102:12
 sub-result : tie.Need-sub-result
 sub-result c = search needs
 
--- src/template.rt:102:11
 int-to-float-result-2 : tie.Need-int-to-float-result-2
 int-to-float-result-2 c = search needs
 
--- src/template.rt:96:1
 returns : tie.Need-returns
 unfolding less
 returns c = rw (le-leb _ _ (c .before .if1 .taken))
 
--- src/template.rt:96:1
 returns-2 : tie.Need-returns-2
 unfolding less
 returns-2 c = rw (lt-leb _ _ (c .before .if1 .left)) (let a = c .before .before .args in neg-int binary32 (a .n - a .k) (a .n - suc (a .k)) (omega (arith, c .before .if1 .left)))

@@ -1,16 +1,13 @@
+-- `alignment::template::outside` meets its contract. Assumes nothing.
 use mathlib.Core.Path.{refl}
 use Rattle.alignment.specs.Template.{outsideOf}
 use borrow.Author.Needs.{needs}
 use Rattle.alignment.proofs.template.outside.Statement.{statement}
 use Rattle.alignment.proofs.template.outside.Tie as tie
-use Rattle.alignment.proofs.template.outside.Reads as reads
-use Rattle.alignment.proofs.template.outside.Lts as lts
 
--- src/template.rt:34:23
 int-to-float-result : tie.Need-int-to-float-result
 int-to-float-result c = search needs
 
--- src/template.rt:31:1
 returns : tie.Need-returns
 unfolding outsideOf
 returns c = refl

@@ -1,3 +1,4 @@
+-- `alignment::template::score` meets its contract. Assumes nothing.
 use native.Mathlib.Omega.{arith}
 use Prim.Native.Nat.{_+_, _-_, _≤_}
 use mathlib.Core.Path.{_≡_, refl, ap, _∙_}
@@ -10,9 +11,6 @@ use Rattle.alignment.proofs.Scores.{out-of-reach}
 use Rattle.alignment.specs.Template.{agree, scoreOf}
 use Rattle.alignment.proofs.template.score.Statement.{statement}
 use Rattle.alignment.proofs.template.score.Tie as tie
-use Rattle.alignment.proofs.template.score.Reads as reads
-use Rattle.alignment.proofs.template.score.Lts as lts
-use Rattle.alignment.proofs.template.agrees.Reads as agrees-reads
 
 abbrev Inv-loop : tie.InvT-loop
 Inv-loop bits width height t x y least n₀ k₀ n k = (k ≤ 25) × (n ≤ k) × (n ≡ sumTo k (agree bits width height t x y))
@@ -20,48 +18,37 @@ Inv-loop bits width height t x y least n₀ k₀ n k = (k ≤ 25) × (n ≤ k) �
 abbrev μ-loop : tie.MeasureT-loop
 μ-loop bits width height t x y least n₀ k₀ n k = 25 - k
 
--- src/template.rt:140:5
 loop-holds : tie.Need-loop-holds Inv-loop μ-loop
 unfolding sumTo
 loop-holds c = (omega arith, omega arith, refl)
 
--- src/template.rt:141:19
 sub-if1 : tie.Need-sub-if1 Inv-loop μ-loop
 sub-if1 c = omega arith
 
--- src/template.rt:141:14
 add-if1 : tie.Need-add-if1 Inv-loop μ-loop
 add-if1 c = omega arith
 
--- src/template.rt:141:13
 cast-if1 : tie.Need-cast-if1 Inv-loop μ-loop
 cast-if1 c = omega arith
 
--- src/template.rt:142:13
 returns : tie.Need-returns Inv-loop μ-loop
 returns c = let l = c .before .before .loop in out-of-reach _ _ _ _ _ _ _ _ _ (l .inv .0) (l .inv .2) (c .if1 .taken)
 
--- src/template.rt:144:14
 agrees-requires : tie.Need-agrees-requires Inv-loop μ-loop
 agrees-requires c κs = search needs
 
--- src/template.rt:144:9
 add-n : tie.Need-add-n Inv-loop μ-loop
 add-n c = omega (arith, c .agrees .ensures .1, c .before .before .before .loop .inv .1, c .before .before .loop-test .taken)
 
--- src/template.rt:145:9
 add-k : tie.Need-add-k Inv-loop μ-loop
 add-k c = omega arith
 
--- src/template.rt:140:5
 loop-less : tie.Need-loop-less Inv-loop μ-loop
 loop-less c = omega arith
 
--- src/template.rt:140:5
 loop-again : tie.Need-loop-again Inv-loop μ-loop
 loop-again c = let l = c .before .before .before .loop in let a = c .before .before .before .before .before .args in (omega arith, omega (arith, c .agrees .ensures .1, l .inv .1), ap (λ z. l .n + z) (c .agrees .ensures .0) ∙ sum-more (agree (now (a .bits)) (a .width) (a .height) (a .t) (a .x) (a .y)) (l .k) (l .n) (l .inv .2))
 
--- src/template.rt:135:1
 returns-2 : tie.Need-returns-2 Inv-loop μ-loop
 unfolding scoreOf
 returns-2 c = let l = c .before .loop in let z : l .k ≡ 25 = omega (arith, c .loop-test .left, l .inv .0) in inl (rw z at (l .inv .2))

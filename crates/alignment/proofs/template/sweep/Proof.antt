@@ -1,3 +1,4 @@
+-- `alignment::template::sweep` meets its contract. Assumes nothing.
 use native.Mathlib.Omega.{arith}
 use Prim.Native.Nat.{_-_}
 use mathlib.Core.Path.{_≡_, refl, sym}
@@ -9,10 +10,6 @@ use Rattle.lists.proofs.Numbers.{mul-bound}
 use Rattle.alignment.specs.Template.{visited, sweepBest}
 use Rattle.alignment.proofs.template.sweep.Statement.{statement}
 use Rattle.alignment.proofs.template.sweep.Tie as tie
-use Rattle.alignment.proofs.template.sweep.Reads as reads
-use Rattle.alignment.proofs.template.sweep.Lts as lts
-use Rattle.alignment.proofs.template.offset.Reads as offset-reads
-use Rattle.alignment.proofs.template.visit.Reads as visit-reads
 
 abbrev Inv-loop : tie.InvT-loop
 Inv-loop bits width height t c m step x y end b₀ k₀ b k = folded (visited bits width height t c m step x y) b₀ (range 0 end) ≡ folded (visited bits width height t c m step x y) b (range k end)
@@ -20,47 +17,36 @@ Inv-loop bits width height t c m step x y end b₀ k₀ b k = folded (visited bi
 abbrev μ-loop : tie.MeasureT-loop
 μ-loop bits width height t c m step x y end b₀ k₀ b k = end - k
 
--- src/template.rt:192:15
 mul-end : tie.Need-mul-end Inv-loop μ-loop
 mul-end c = omega (arith, mul-bound (c .before .args .m) (c .before .args .m) 13 13 (c .before .pre .1) (c .before .pre .1))
 
--- src/template.rt:195:5
 loop-holds : tie.Need-loop-holds Inv-loop μ-loop
 loop-holds c = refl
 
--- src/template.rt:196:25
 rem-offset : tie.Need-rem-offset Inv-loop μ-loop
 rem-offset c = c .before .before .before .pre .0
 
--- src/template.rt:196:18
 offset-requires : tie.Need-offset-requires Inv-loop μ-loop
 offset-requires c κs = search needs
 
--- src/template.rt:197:25
 div-offset : tie.Need-div-offset Inv-loop μ-loop
 div-offset c = c .before .before .before .before .pre .0
 
--- src/template.rt:197:18
 offset-requires-2 : tie.Need-offset-requires-2 Inv-loop μ-loop
 offset-requires-2 c κs = search needs
 
--- src/template.rt:198:9
 visit-requires : tie.Need-visit-requires Inv-loop μ-loop
 visit-requires c κs = search needs
 
--- src/template.rt:199:9
 add-k : tie.Need-add-k Inv-loop μ-loop
 add-k c = omega (arith, c .before .before .before .loop-test .taken, mul-bound (c .before .before .before .before .before .before .args .m) (c .before .before .before .before .before .before .args .m) 13 13 (c .before .before .before .before .before .before .pre .1) (c .before .before .before .before .before .before .pre .1))
 
--- src/template.rt:195:5
 loop-less : tie.Need-loop-less Inv-loop μ-loop
 loop-less c = omega (arith, c .before .before .before .loop-test .taken)
 
--- src/template.rt:195:5
 loop-again : tie.Need-loop-again Inv-loop μ-loop
 loop-again c = let l = c .before .before .before .before .loop in let a = c .before .before .before .before .before .before .args in fold-more (visited (now (a .bits)) (a .width) (a .height) (a .t) (a .c) (a .m) (a .step) (a .best .x) (a .best .y)) _ (l .b) _ (l .k) _ (c .before .before .before .loop-test .taken) (l .inv) (rw (← c .before .before .offset .ensures, ← c .before .offset2 .ensures) (c .visit .ensures))
 
--- src/template.rt:177:1
 returns : tie.Need-returns Inv-loop μ-loop
 unfolding sweepBest
 returns c = let l = c .before .loop in let a = c .before .before .before .args in sym (fold-end (visited (now (a .bits)) (a .width) (a .height) (a .t) (a .c) (a .m) (a .step) (a .best .x) (a .best .y)) _ (l .b) (l .k) _ (c .loop-test .left) (l .inv))

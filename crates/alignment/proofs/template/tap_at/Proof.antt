@@ -1,44 +1,33 @@
+-- `alignment::template::tap_at` meets its contract. Assumes nothing.
 use Rattle.alignment.proofs.Taps.{counted, same-counted}
 use Rattle.alignment.specs.Template.{tapped}
 use borrow.Author.Needs.{needs}
 use Rattle.alignment.proofs.template.tap_at.Statement.{statement}
 use Rattle.alignment.proofs.template.tap_at.Tie as tie
-use Rattle.alignment.proofs.template.tap_at.Reads as reads
-use Rattle.alignment.proofs.template.tap_at.Lts as lts
-use Rattle.alignment.proofs.template.outside.Reads as outside-reads
-use Rattle.alignment.proofs.template.pixel_at.Reads as pixel-at-reads
 
--- src/template.rt:55:8
 outside-requires : tie.Need-outside-requires
 outside-requires c κs = search needs
 
--- src/template.rt:56:9
 returns : tie.Need-returns
 unfolding tapped
 returns c = (rw (← c .before .outside .ensures, c .if1 .taken), same-counted _)
 
--- src/template.rt:58:8
 outside-requires-2 : tie.Need-outside-requires-2
 outside-requires-2 c κs = search needs
 
--- src/template.rt:59:9
 returns-2 : tie.Need-returns-2
 unfolding tapped
 returns-2 c = (rw (← c .before .before .before .outside .ensures, c .before .before .if1 .left, ← c .before .outside2 .ensures, c .if2 .taken), same-counted _)
 
--- src/template.rt:62:15
 add-t8 : tie.Need-add-t8
 add-t8 c = search needs
 
--- src/template.rt:63:24
 pixel-at-requires : tie.Need-pixel-at-requires
 pixel-at-requires c κs = search needs
 
--- src/template.rt:63:15
 add-t10 : tie.Need-add-t10
 add-t10 c = search needs
 
--- src/template.rt:50:1
 returns-3 : tie.Need-returns-3
 unfolding tapped
 returns-3 c = (rw (← c .before .before .before .before .before .before .outside .ensures, c .before .before .before .before .before .if1 .left, ← c .before .before .before .before .outside2 .ensures, c .before .before .before .if2 .left, ← c .before .pixel-at .ensures .0), counted _ _ (c .before .pixel-at .ensures .1))

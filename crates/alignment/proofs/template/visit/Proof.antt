@@ -1,32 +1,24 @@
+-- `alignment::template::visit` meets its contract. Assumes nothing.
 use denote.Ref.{now}
 use Rattle.alignment.proofs.Scores.{best-stays, site-taken}
 use Rattle.alignment.specs.Template.{siteAt}
 use borrow.Author.Needs.{needs}
 use Rattle.alignment.proofs.template.visit.Statement.{statement}
 use Rattle.alignment.proofs.template.visit.Tie as tie
-use Rattle.alignment.proofs.template.visit.Reads as reads
-use Rattle.alignment.proofs.template.visit.Lts as lts
-use Rattle.alignment.proofs.template.needed.Reads as needed-reads
-use Rattle.alignment.proofs.template.score.Reads as score-reads
 
--- src/template.rt:175:9
 needed-requires : tie.Need-needed-requires
 needed-requires c κs = search needs
 
--- src/template.rt:176:9
 score-requires : tie.Need-score-requires
 score-requires c κs = search needs
 
--- src/template.rt:177:9
 cast-if1 : tie.Need-cast-if1
 cast-if1 c = search needs
 
--- src/template.rt:178:9
 returns : tie.Need-returns
 unfolding siteAt
 returns c = let a = c .before .before .before .before .args in best-stays (a .best) (siteAt (now (a .bits)) (a .width) (a .height) (a .t) (a .c) (a .x) (a .y)) _ _ (c .before .before .needed .ensures) (c .before .score .ensures) (c .if1 .taken)
 
--- src/template.rt:162:1
 returns-2 : tie.Need-returns-2
 unfolding siteAt
 returns-2 c = let a = c .before .before .before .before .args in site-taken (a .best) (siteAt (now (a .bits)) (a .width) (a .height) (a .t) (a .c) (a .x) (a .y)) _ _ (c .before .before .needed .ensures) (c .before .score .ensures) (c .if1 .left)

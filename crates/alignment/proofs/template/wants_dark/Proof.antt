@@ -1,3 +1,4 @@
+-- `alignment::template::wants_dark` meets its contract. Assumes nothing.
 use native.Mathlib.Omega.{arith}
 use mathlib.Core.Path.{_≡_}
 use mathlib.Core.Logic.{⊎-elim}
@@ -7,19 +8,13 @@ use Rattle.alignment.specs.Template.{wantDark}
 use borrow.Author.Needs.{needs}
 use Rattle.alignment.proofs.template.wants_dark.Statement.{statement}
 use Rattle.alignment.proofs.template.wants_dark.Tie as tie
-use Rattle.alignment.proofs.template.wants_dark.Reads as reads
-use Rattle.alignment.proofs.template.wants_dark.Lts as lts
-use Rattle.alignment.proofs.template.apart.Reads as apart-reads
 
--- src/template.rt:117:9
 apart-requires : tie.Need-apart-requires
 apart-requires c κs = search needs
 
--- src/template.rt:118:9
 apart-requires-2 : tie.Need-apart-requires-2
 apart-requires-2 c κs = search needs
 
--- src/template.rt:114:1
 returns : tie.Need-returns
 unfolding wantDark
 returns c = let a = c .before .before .before .args in let z : c .if1 .far ≡ max (dist (a .i) 2) (dist (a .j) 2) = ⊎-elim (λ w. omega (arith, w .0 .taken, w .1, c .before .before .apart .ensures, c .before .apart2 .ensures)) (λ w. omega (arith, w .0 .left, w .1, c .before .before .apart .ensures, c .before .apart2 .ensures)) (c .if1 .came) in rw z
