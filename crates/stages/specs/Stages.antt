@@ -1,0 +1,26 @@
+-- All picture stages in one call, the first part of the whole chain. Document 01: "Whole chain (added: gray, `binarize`, `denoised`, `detect_candidates`):
+-- 1, 2, 3, 4, 5, 6"; here are its 1 to 5. Definitions only.
+use Prim.Native.Nat.{ℕ, _*_}
+use mathlib.Core.Bool.{Bool, _||_}
+use mathlib.Core.List.{List, [], _∷_}
+use lib.Dec.{ltb}
+use Rattle.lcr_core.specs.Outcome.{Check, firstOf, zeroSide, largeSide}
+use Rattle.binary.specs.Binary.{bytesOf}
+use Rattle.blocks.specs.Blocks.{blocksIn, under}
+use Rattle.image.specs.Gray.{unknownFormat, shortPicture}
+
+-- 5: gray is under width × height bytes, bits or denoised under (width × height + 7) / 8, rounded down, or a work slice under one byte per block
+unfoldable pub shortRoom : ℕ → ℕ → ℕ → ℕ → ℕ → List ℕ → Bool
+shortRoom w h gray bits denoised work =
+    ltb gray (w * h) || ltb bits (bytesOf (w * h)) || ltb denoised (bytesOf (w * h)) || under (blocksIn w h) work
+
+-- the refusal number for len picture bytes in rows of s bytes with format byte f, and lent slices of these lengths
+unfoldable pub stagesRefusal : ℕ → ℕ → ℕ → ℕ → ℕ → ℕ → ℕ → ℕ → List ℕ → ℕ
+stagesRefusal len w h s f gray bits denoised work =
+    firstOf
+    (record { refuses = zeroSide w h; number = 1 }
+    ∷ record { refuses = largeSide w h; number = 2 }
+    ∷ record { refuses = unknownFormat f; number = 3 }
+    ∷ record { refuses = shortPicture len w h s f; number = 4 }
+    ∷ record { refuses = shortRoom w h gray bits denoised work; number = 5 }
+    ∷ [])
