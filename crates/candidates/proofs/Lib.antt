@@ -1,0 +1,4 @@
+pub mod Building
+pub mod Tables
+pub mod Answers
+pub mod Theorems
