@@ -4,7 +4,7 @@ use Prim.Native.Nat.{ℕ, _*_}
 use mathlib.Core.Bool.{Bool, _||_}
 use mathlib.Core.List.{List, [], _∷_}
 use lib.Dec.{ltb}
-use Rattle.lcr_core.specs.Outcome.{Check, firstOf, zeroSide, largeSide}
+use Rattle.lcr_core.specs.Outcome.{firstOf, zeroSide, largeSide}
 use Rattle.binary.specs.Binary.{bytesOf}
 use Rattle.blocks.specs.Blocks.{blocksIn, under}
 use Rattle.image.specs.Gray.{unknownFormat, shortPicture}
