@@ -1,4 +1,9 @@
 // Records 48 to 58: linear equations, transforms, and what three finders tell.
+use geometry::Corners;
+use geometry::Finder;
+use geometry::Marker;
+use lcr_core::version::Found;
+use lcr_core::version::Version;
 use transform::Point;
 use transform::Quad;
 use transform::Transform;
@@ -118,6 +123,71 @@ fn pitch_range(p: &[u8], out: &mut [u8]) -> usize {
     8
 }
 
+pub fn finder_at(p: &[u8], at: u16) -> Finder {
+    let i = at as u32;
+    Finder {
+        x: record::float_at(p, i),
+        y: record::float_at(p, i + 4),
+        module: record::float_at(p, i + 8),
+        confirmations: little_endian::get32(p, i + 12),
+    }
+}
+
+pub fn put_finder(out: &mut [u8], at: u16, f: Finder) {
+    let i = at as u32;
+    record::put_float(out, i, f.x);
+    record::put_float(out, i + 4, f.y);
+    record::put_float(out, i + 8, f.module);
+    little_endian::put32(out, i + 12, f.confirmations);
+}
+
+pub fn corners_at(p: &[u8], at: u8) -> Corners {
+    let i = at as u16;
+    Corners {
+        tl: finder_at(p, i),
+        tr: finder_at(p, i + 16),
+        bl: finder_at(p, i + 32),
+    }
+}
+
+fn order_finders(p: &[u8], out: &mut [u8]) -> usize {
+    let c = corners_at(p, 0);
+    let r = geometry::order_finders(c.tl, c.tr, c.bl);
+    put_finder(out, 0, r.tl);
+    put_finder(out, 16, r.tr);
+    put_finder(out, 32, r.bl);
+    48
+}
+
+fn estimate_version(p: &[u8], out: &mut [u8]) -> usize {
+    match geometry::estimate_version(corners_at(p, 0)) {
+        Found::Is(v) => {
+            little_endian::put8(out, 0, 1);
+            little_endian::put8(out, 1, v.get());
+        }
+        Found::Nothing => {}
+    }
+    2
+}
+
+fn marker_at(p: &[u8], at: u16) -> Marker {
+    if little_endian::get8(p, at as u32) == 0 {
+        return Marker::Missing;
+    }
+    Marker::At(point_at(p, at % 32768 + 1))
+}
+
+fn build_transform(p: &[u8], out: &mut [u8]) -> usize {
+    let version = little_endian::get8(p, 57);
+    let b = geometry::build_transform(corners_at(p, 0), marker_at(p, 48), Version(version));
+    little_endian::put8(out, 0, b.refusal);
+    let f = b.fit;
+    record::put_flag(out, 1, f.found);
+    let t = f.transform;
+    put_transform(out, 2, t);
+    66
+}
+
 pub fn answer(function: u8, p: &[u8], out: &mut [u8]) -> usize {
     match function {
         48 => solve6(p, out),
@@ -128,6 +198,9 @@ pub fn answer(function: u8, p: &[u8], out: &mut [u8]) -> usize {
         53 => module_center(p, out),
         54 => local_pitch(p, out),
         55 => pitch_range(p, out),
+        56 => order_finders(p, out),
+        57 => estimate_version(p, out),
+        58 => build_transform(p, out),
         _ => 0,
     }
 }

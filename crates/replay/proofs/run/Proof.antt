@@ -8,10 +8,10 @@ use Rattle.replay.proofs.run.Statement.{statement}
 use Rattle.replay.proofs.run.Tie as tie
 
 abbrev Inv-loop : tie.InvT-loop
-Inv-loop payload₀ room₀ records₀ payload room records = (length payload ≡ length payload₀) × (length room ≡ length room₀)
+Inv-loop payload₀ records₀ payload records = length payload ≡ length payload₀
 
 abbrev μ-loop : tie.MeasureT-loop
-μ-loop payload₀ room₀ records₀ payload room records = 4000000000 - records
+μ-loop payload₀ records₀ payload records = 4000000000 - records
 
 loop-holds : tie.Need-loop-holds Inv-loop μ-loop
 loop-holds c = omega arith
@@ -21,9 +21,6 @@ step-requires c κs = search needs
 
 same-length : tie.Need-same-length Inv-loop μ-loop
 same-length c = search needs
-
-same-length-2 : tie.Need-same-length-2 Inv-loop μ-loop
-same-length-2 c = search needs
 
 returns : tie.Need-returns Inv-loop μ-loop
 returns c = search needs
@@ -37,11 +34,8 @@ loop-less c = omega arith
 loop-again : tie.Need-loop-again Inv-loop μ-loop
 loop-again c = search needs
 
-same-length-3 : tie.Need-same-length-3 Inv-loop μ-loop
-same-length-3 c = search needs
-
-same-length-4 : tie.Need-same-length-4 Inv-loop μ-loop
-same-length-4 c = search needs
+same-length-2 : tie.Need-same-length-2 Inv-loop μ-loop
+same-length-2 c = search needs
 
 returns-2 : tie.Need-returns-2 Inv-loop μ-loop
 returns-2 c = search needs
@@ -55,11 +49,9 @@ run-spec =
     loop-holds
     step-requires
     same-length
-    same-length-2
     returns
     add-records
     loop-less
     loop-again
-    same-length-3
-    same-length-4
+    same-length-2
     returns-2)

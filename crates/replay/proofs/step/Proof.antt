@@ -62,9 +62,6 @@ print-line-requires c κs = search needs
 same-length-2 : tie.Need-same-length-2
 same-length-2 c = search needs
 
-same-length-3 : tie.Need-same-length-3
-same-length-3 c = search needs
-
 returns-4 : tie.Need-returns-4
 returns-4 c = search needs
 
@@ -91,5 +88,4 @@ step-spec =
     answer-requires
     print-line-requires
     same-length-2
-    same-length-3
     returns-4)

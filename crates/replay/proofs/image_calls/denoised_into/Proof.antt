@@ -1,9 +1,9 @@
--- `replay::image_calls::gray` meets its contract. Assumes nothing.
+-- `replay::image_calls::denoised_into` meets its contract. Assumes nothing.
 use native.Mathlib.Omega.{arith}
 use lib.ListN.{length-take}
 use borrow.Author.Needs.{needs}
-use Rattle.replay.proofs.image_calls.gray.Statement.{statement}
-use Rattle.replay.proofs.image_calls.gray.Tie as tie
+use Rattle.replay.proofs.image_calls.denoised_into.Statement.{statement}
+use Rattle.replay.proofs.image_calls.denoised_into.Tie as tie
 
 get32-requires : tie.Need-get32-requires
 get32-requires c κs = search needs
@@ -32,20 +32,14 @@ get32-requires-2 c κs = search needs
 get32-requires-3 : tie.Need-get32-requires-3
 get32-requires-3 c κs = search needs
 
-get32-requires-4 : tie.Need-get32-requires-4
-get32-requires-4 c κs = search needs
+slice-relend-prefix-denoised : tie.Need-slice-relend-prefix-denoised
+slice-relend-prefix-denoised c = search needs
 
-get8-requires : tie.Need-get8-requires
-get8-requires c κs = search needs
+slice-aggregate-denoised : tie.Need-slice-aggregate-denoised
+slice-aggregate-denoised c = simp length-take (omega arith)
 
-slice-relend-prefix-gray-buffer : tie.Need-slice-relend-prefix-gray-buffer
-slice-relend-prefix-gray-buffer c = search needs
-
-slice-aggregate-gray-buffer : tie.Need-slice-aggregate-gray-buffer
-slice-aggregate-gray-buffer c = simp length-take (omega arith)
-
-gray-buffer-requires : tie.Need-gray-buffer-requires
-gray-buffer-requires c κs = search needs
+denoised-requires : tie.Need-denoised-requires
+denoised-requires c κs = search needs
 
 number-requires : tie.Need-number-requires
 number-requires c κs = search needs
@@ -71,8 +65,8 @@ same-length-2 c = search needs
 returns-2 : tie.Need-returns-2
 returns-2 c = search needs
 
-pub gray-spec : {M : Type 1} → statement M
-gray-spec =
+pub denoised-into-spec : {M : Type 1} → statement M
+denoised-into-spec =
     tie.close
     (tie.spec
     get32-requires
@@ -84,11 +78,9 @@ gray-spec =
     rest-requires
     get32-requires-2
     get32-requires-3
-    get32-requires-4
-    get8-requires
-    slice-relend-prefix-gray-buffer
-    slice-aggregate-gray-buffer
-    gray-buffer-requires
+    slice-relend-prefix-denoised
+    slice-aggregate-denoised
+    denoised-requires
     number-requires
     put8-requires
     slice-reshare-prefix-put-slice
