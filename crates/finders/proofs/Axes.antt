@@ -1,12 +1,12 @@
 -- The lines of an axis: how many hits they can add, and that the rows and then the columns give all sightings. Assumes nothing.
-use mathlib.Core.Path.{_≡_, refl, sym, ap, _∙_}
+use mathlib.Core.Path.{_≡_, ap, _∙_}
 use mathlib.Core.Bool.{Bool, true, false, not, cond, Bool·beq}
-use mathlib.Core.List.{List, [], _∷_, _++_}
-use Prim.Native.Nat.{ℕ, zero, suc, _+_, _-_, _*_, _/_, _≤_, _<_}
+use mathlib.Core.List.{List, [], _∷_}
+use Prim.Native.Nat.{ℕ, zero, suc, _+_, _-_, _*_, _/_, _≤_}
 use native.Mathlib.Omega.{arith}
 use lib.Ieee.{Float}
 use lib.ListN.{length, length-append}
-use Rattle.lists.specs.Lists.{range, folded, flatMap}
+use Rattle.lists.specs.Lists.{range, folded}
 use Rattle.lists.proofs.Folds.{folded-append, length-count}
 use Rattle.lcr_core.specs.Outcome.{maxSide}
 use Rattle.lcr_core.specs.Passed.{Sides}
@@ -15,7 +15,7 @@ use Rattle.ratio.specs.Ratio.{matchOf}
 use Rattle.ratio.specs.declared.Match.{Match}
 use Rattle.ratio.specs.declared.Match.the-variants.{Module, Nothing}
 use Rattle.finders.specs.declared.search.Line.{Line}
-use Rattle.finders.specs.Hits.{Hit, runs, hitIf, window, hits, lineHits}
+use Rattle.finders.specs.Hits.{runs, hitIf, window, hits, lineHits}
 use Rattle.finders.specs.Held.{Held, held, mergeNext}
 use Rattle.finders.specs.Search.{maxFinders, seen, everySecond, rowSightings, columnSightings, sightings, found}
 use Rattle.finders.specs.Inner.{Fine, lineAt, lineCount, taken, scanned, scannedAt, axis}

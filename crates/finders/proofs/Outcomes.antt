@@ -1,7 +1,7 @@
 -- What the searched table says of the answer, and the refusals. Assumes nothing.
 use mathlib.Core.Path.{_≡_, refl, sym, ap, _∙_}
 use mathlib.Core.Bool.{Bool, true, false, cond, true≢false}
-use mathlib.Core.List.{List, [], _∷_}
+use mathlib.Core.List.{List, []}
 use Prim.Native.Nat.{ℕ, _+_, _*_, _^_, _≤_}
 use native.Mathlib.Omega.{arith}
 use lib.ListN.{length}
@@ -9,13 +9,12 @@ use Rattle.lcr_core.specs.Outcome.{zeroSide, largeSide, unless}
 use Rattle.lcr_core.specs.Passed.{Sides}
 use Rattle.binary.specs.Refusal.{shortBits, bitsRefusal}
 use Rattle.finders.specs.declared.Finders.{Finders}
-use Rattle.finders.specs.declared.Found.{Found}
 use Rattle.finders.specs.declared.held.Merged.{Merged}
 use Rattle.finders.specs.Held.{Held, held, over}
 use Rattle.finders.specs.Search.{maxFinders, found}
 use Rattle.finders.specs.Rank.{ranked}
-use Rattle.finders.specs.Answer.{tableOf, isOver, heldList, findRefusal, answerOf}
-use Rattle.finders.specs.Inner.{heldIn, mergedOf, heldOf, Sound, Fine, axis, refused, outcome}
+use Rattle.finders.specs.Answer.{tableOf, isOver, heldList, findRefusal, answerOf, heldIn}
+use Rattle.finders.specs.Inner.{mergedOf, heldOf, Sound, Fine, axis, refused, outcome}
 use Rattle.finders.proofs.Tables.{held-in, held-of, sound-of, fine-mono, open-rest, open-fine}
 use Rattle.finders.proofs.Axes.{axis-fine, found-is}
 

@@ -1,19 +1,18 @@
 -- Where a hit goes, in a table of any number of places. Assumes nothing.
-use mathlib.Core.Path.{_≡_, refl, sym, ap, _∙_}
+use mathlib.Core.Path.{_≡_, refl, ap}
 use mathlib.Core.Bool.{Bool, true, false, cond}
 use mathlib.Core.List.{List, [], _∷_, _++_}
-use Prim.Native.Nat.{ℕ, zero, suc, _+_, _≤_, _<_}
+use Prim.Native.Nat.{ℕ, suc, _+_, _≤_, _<_}
 use native.Mathlib.Nat.{le-trans, le-of-eq}
 use native.Mathlib.Numerals.{add-one}
 use native.Mathlib.Omega.{arith}
-use lib.Dec.{leb}
 use lib.ListN.{length, take, drop, getD, set, drop-of-length-le, length-append, length-set}
 use lib.Seq.{drop-cons, length-take-le, getD-take}
-use borrow.Author.Tests.{lt-leb, le-leb, leb-true}
-use Rattle.lists.specs.Lists.{Each, firstWhere}
+use borrow.Author.Tests.{lt-leb, le-leb}
+use Rattle.lists.specs.Lists.{firstWhere}
 use Rattle.lists.proofs.Filters.{each-map}
 use Rattle.geometry.specs.declared.Finder.{Finder}
-use Rattle.finders.specs.Held.{Sighting, within, join, fresh, place, Held, held, over, merge}
+use Rattle.finders.specs.Held.{Sighting, within, join, fresh, place, held, over, merge}
 use Rattle.finders.specs.Inner.{Bounded}
 
 -- ---- the search for the first that passes p, in the first n places of a table, at place i

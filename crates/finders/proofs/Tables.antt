@@ -6,7 +6,7 @@ use Prim.Native.Nat.{ℕ, suc, _+_, _-_, _^_, _≤_, _<_}
 use native.Mathlib.Omega.{arith}
 use lib.Dec.{leb}
 use lib.Ieee.{Float}
-use lib.ListN.{length, take, getD, set, replicate, length-append, length-set}
+use lib.ListN.{length, getD, set, replicate, length-append, length-set}
 use lib.Seq.{set-append-left, getD-take}
 use borrow.Author.Tests.{leb-true}
 use Rattle.lists.specs.Lists.{folded, firstWhere, padded}
@@ -21,9 +21,9 @@ use Rattle.finders.specs.declared.held.Merged.{Merged}
 use Rattle.finders.specs.Hits.{Hit}
 use Rattle.finders.specs.Held.{Sighting, Held, held, over, within, join, fresh, place, merge, mergeNext}
 use Rattle.finders.specs.Search.{maxFinders, sighting, seen}
-use Rattle.finders.specs.Answer.{tableOf}
+use Rattle.finders.specs.Answer.{tableOf, heldIn}
 use Rattle.geometry.specs.Order.{zeroFinder}
-use Rattle.finders.specs.Inner.{heldIn, mergedOf, heldOf, Bounded, Good, Fine, Sound, taken}
+use Rattle.finders.specs.Inner.{mergedOf, heldOf, Bounded, Good, Fine, Sound, taken}
 use Rattle.finders.proofs.Places.{merge-join, merge-new, merge-over, bounded-mono, place-bounded}
 
 -- ---- a table and the list that it holds

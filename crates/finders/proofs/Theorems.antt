@@ -1,18 +1,18 @@
 -- The refusal 6 and the ranking in document 01's words, as corollaries of the definitions. Assumes nothing.
 use mathlib.Core.Path.{_≡_, refl, sym, ap, _∙_}
-use mathlib.Core.Bool.{Bool, true, false, cond, _&&_, true≢false}
+use mathlib.Core.Bool.{Bool, true, false, cond}
 use mathlib.Core.List.{List, [], _∷_, _++_, append-assoc, append-nil}
 use mathlib.Core.Logic.{_⊎_, inl, inr}
 use Prim.Native.Nat.{ℕ, suc, _+_, _≤_, _<_}
 use native.Mathlib.Nat.{le-refl, le-trans, le-of-lt}
 use native.Mathlib.Omega.{arith}
 use lib.Dec.{leb, ltb, eqb}
-use lib.ListN.{length, length-append}
-use borrow.Author.Tests.{lt-leb, leb-true, leb-false, ltb-true, ltb-false, eqb-true, ne-eqb}
+use lib.ListN.{length}
+use borrow.Author.Tests.{lt-leb, leb-false, ltb-true, ltb-false, eqb-true, ne-eqb}
 use Rattle.lists.specs.Lists.{Each, folded, those}
 use Rattle.lists.proofs.Filters.{each-map, those-none, those-append}
 use Rattle.geometry.specs.declared.Finder.{Finder}
-use Rattle.finders.specs.Held.{Sighting, Held, held, over, within, join, fresh, place, merge}
+use Rattle.finders.specs.Held.{Sighting, held, over, within, join, place, merge}
 use Rattle.finders.specs.Rank.{stays, insert, ranked}
 
 -- ---- 6: a hit is one too many if and only if it falls within no held finder while the table is full, for a table of any number of places

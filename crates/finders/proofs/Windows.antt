@@ -6,7 +6,7 @@ use mathlib.Core.Logic.{inl, inr}
 use Prim.Native.Nat.{ℕ, zero, suc, _+_, _-_, _*_, _≤_, _<_}
 use native.Mathlib.Nat.{add-zero, sub-zero, eq-or-lt-of-le}
 use native.Mathlib.Omega.{arith}
-use lib.Dec.{leb, ltb}
+use lib.Dec.{ltb}
 use lib.Ieee.{Float}
 use borrow.Author.Tests.{lt-leb, ltb-true}
 use Rattle.float.specs.Steps.{minus32, over32, whole32}
@@ -15,7 +15,7 @@ use Rattle.binary.specs.Line.{run}
 use Rattle.ratio.specs.Ratio.{passes, nearOne, matchOf}
 use Rattle.ratio.specs.declared.Match.{Match}
 use Rattle.ratio.specs.declared.Match.the-variants.{Module, Nothing}
-use Rattle.finders.specs.Hits.{Hit, runs, window, hits, lineHits}
+use Rattle.finders.specs.Hits.{runs, window, hits, lineHits}
 use Rattle.finders.specs.Inner.{runsFrom, hitsAfter}
 use Rattle.finders.specs.declared.search.Window.{Window}
 

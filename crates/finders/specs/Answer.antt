@@ -3,9 +3,9 @@
 use Prim.Native.Nat.{ℕ}
 use mathlib.Core.Bool.{Bool, true, false}
 use mathlib.Core.List.{List, [], _∷_, _++_}
-use lib.ListN.{length}
+use lib.ListN.{length, take}
 use Rattle.lists.specs.Lists.{padded}
-use Rattle.lcr_core.specs.Outcome.{Check, firstOf, unless}
+use Rattle.lcr_core.specs.Outcome.{firstOf, unless}
 use Rattle.binary.specs.Refusal.{bitsChecks}
 use Rattle.finders.specs.Held.{Held, held, over}
 use Rattle.finders.specs.Search.{maxFinders, found}
@@ -18,6 +18,10 @@ use Rattle.finders.specs.declared.Found.{Found}
 -- a table that holds a list: zero beyond the count
 abbrev pub tableOf : List Finder → Finders
 tableOf fs = record { count = length fs; table = padded maxFinders zeroFinder fs }
+
+-- the finders that a table holds
+abbrev pub heldIn : Finders → List Finder
+heldIn t = take (t .count) (t .table)
 
 -- whether there was one finder too many, and the finders otherwise
 abbrev pub isOver : Held → Bool

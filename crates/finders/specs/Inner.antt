@@ -4,14 +4,14 @@ use mathlib.Core.Path.{_≡_}
 use mathlib.Core.Bool.{Bool, true, false, cond}
 use mathlib.Core.List.{List, [], _∷_}
 use lib.Dec.{ltb}
-use lib.ListN.{length, take}
+use lib.ListN.{length}
 use Rattle.lists.specs.Lists.{Each, range, folded, firstWhere}
 use Rattle.binary.specs.Line.{pixel}
 use Rattle.finders.specs.Hits.{Hit, runs, hits, lineHits}
 use Rattle.finders.specs.Held.{Held, held, over, mergeNext}
-use Rattle.finders.specs.Search.{maxFinders, seen, found}
+use Rattle.finders.specs.Search.{maxFinders, seen}
 use Rattle.finders.specs.Rank.{insert, stays, ranked}
-use Rattle.finders.specs.Answer.{tableOf}
+use Rattle.finders.specs.Answer.{tableOf, heldIn}
 use Rattle.geometry.specs.declared.Finder.{Finder}
 use Rattle.finders.specs.declared.Finders.{Finders}
 use Rattle.finders.specs.declared.Found.{Found}
@@ -22,10 +22,6 @@ use Rattle.finders.specs.declared.search.Next.{Next}
 use Rattle.finders.specs.declared.search.Next.the-variants.{Hit as NextHit, End}
 
 -- ---- the table
--- the finders that a table holds
-abbrev pub heldIn : Finders → List Finder
-heldIn t = take (t .count) (t .table)
-
 abbrev pub mergedOf : Held → Merged
 mergedOf (held fs) = record { full = false; finders = tableOf fs }
 mergedOf over = record { full = true; finders = tableOf [] }

@@ -3,7 +3,6 @@ use mathlib.Core.Path.{_≡_}
 use mathlib.Core.Bool.{Bool, true, false}
 use Prim.Native.Nat.{ℕ, _+_, _-_, min}
 use Rattle.binary.specs.Line.{run}
-use Rattle.confirm.specs.declared.Side.{Side}
 use Rattle.confirm.specs.Confirm.{sideAfter}
 use borrow.Author.Needs.{needs}
 use Rattle.confirm.proofs.side_after.Statement.{statement}
