@@ -119,7 +119,8 @@ fn build_detection(bits: &[u8], width: u32, height: u32, c: Corners) -> Built
     }
 }
 
-fn no_detections() -> Detections
+// The empty table.
+pub fn no_detections() -> Detections
     ensures { λ r. ⌜ r ≡ tableOf [] ⌝ }
 {
     let z = zero_detection();
