@@ -2,3 +2,8 @@ pub mod Taps
 pub mod Scores
 pub mod Refusals
 pub mod Refining
+pub mod Order
+pub mod First
+pub mod NumberLaws
+pub mod Sweeps
+pub mod Theorems

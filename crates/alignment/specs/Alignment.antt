@@ -1,7 +1,7 @@
 -- The alignment functions. Document 01: refusals "1, 2, 4, 7"; "Alignment: none below version 2", the template match (specs/Template.antt), "if no site has 23, `find_alignment`
 -- searches the rows" (crate rows), and `refine_alignment` "answers none but keeps the transform it was given". Definitions only.
 use Prim.Native.Nat.{ℕ}
-use mathlib.Core.Bool.{not, cond}
+use mathlib.Core.Bool.{Bool, true, false, not, _&&_, cond}
 use mathlib.Core.List.{List, [], _∷_, _++_}
 use lib.Dec.{ltb}
 use lib.ListN.{length}
@@ -10,7 +10,6 @@ use Rattle.lcr_core.specs.Outcome.{firstOf, unless}
 use Rattle.lcr_core.specs.Version.{valid}
 use Rattle.binary.specs.Refusal.{bitsChecks}
 use Rattle.transform.specs.Fit.{zeroTransform}
-use Rattle.transform.specs.declared.Fit.{Fit}
 use Rattle.geometry.specs.Build.{builtOf}
 use Rattle.geometry.specs.declared.Corners.{Corners}
 use Rattle.rows.specs.Rows.{answer, findOf}
@@ -45,12 +44,12 @@ unfoldable pub locateOf : List ℕ → ℕ → ℕ → Transform → ℕ → Flo
 locateOf bits w h t version m = answer (alignmentRefusal (length bits) w h version) (locatedOf bits w h t version m)
 
 -- `refine_alignment`: the transform through the finders and the marker; without a marker, or where there is no such transform, the one given
-abbrev pub orGiven : Fit → Transform → Transform
-orGiven f t = cond (f .found) (f .transform) t
+abbrev pub isFound : Marker → Bool
+isFound (At p) = true
+isFound Missing = false
 
 unfoldable pub rebuiltOf : Corners → Marker → ℕ → Transform → Transform
-rebuiltOf corners Missing version t = t
-rebuiltOf corners (At p) version t = orGiven (builtOf corners (At p) version .fit) t
+rebuiltOf corners a version t = let f = builtOf corners a version .fit in cond (isFound a && f .found) (f .transform) t
 
 -- a refusal's number, with every other field zero, or the transform and the marker
 abbrev pub refined : ℕ → Transform → Marker → Refined

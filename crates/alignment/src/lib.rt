@@ -13,7 +13,7 @@ use template::matched;
 use transform::Transform;
 ghost use mathlib.Core.Path.{_≡_};
 ghost use Prim.Native.Nat.{_≤_};
-ghost use Rattle.alignment.specs.Alignment.{alignmentRefusal, matchOf, searchedOf, locatedOf, locateOf, rebuiltOf, refineOf};
+ghost use Rattle.alignment.specs.Alignment.{alignmentRefusal, matchOf, searchedOf, locatedOf, locateOf, isFound, rebuiltOf, refineOf};
 
 mod template;
 
@@ -107,22 +107,28 @@ pub fn locate_alignment(
     Located { refusal: 0, marker }
 }
 
+fn is_found(marker: Marker) -> bool
+    ensures { λ r. ⌜ r ≡ isFound marker ⌝ }
+{
+    match marker {
+        Marker::At(_) => true,
+        Marker::Missing => false,
+    }
+}
+
 // The transform through the finders and the marker; the one given where there is no marker or no such transform.
 fn rebuilt(corners: Corners, marker: Marker, version: Version, transform: Transform) -> Transform
     ensures { λ r. ⌜ r ≡ rebuiltOf corners marker (version .0) transform ⌝ }
 {
-    match marker {
-        Marker::At(p) => {
-            let built = build_transform(corners, Marker::At(p), version);
-            let fit = built.fit;
-            if fit.found {
-                let t = fit.transform;
-                return t;
-            }
-            transform
+    if is_found(marker) {
+        let built = build_transform(corners, marker, version);
+        let fit = built.fit;
+        if fit.found {
+            let t = fit.transform;
+            return t;
         }
-        Marker::Missing => transform,
     }
+    transform
 }
 
 // The marker again, through a better transform, and the transform through it.
