@@ -6,20 +6,23 @@ use Prim.Native.Nat.{ℕ, zero, suc, _+_, _-_, _*_, _/_, _≤_}
 use native.Mathlib.Omega.{arith}
 use lib.Ieee.{Float}
 use lib.ListN.{length, length-append}
-use Rattle.lists.specs.Lists.{range, folded}
-use Rattle.lists.proofs.Folds.{folded-append, length-count}
+use Rattle.lists.specs.Lists.{range, folded, flatMap}
+use Rattle.lists.proofs.Folds.{folded-append, flatMap-few, length-count}
 use Rattle.lcr_core.specs.Outcome.{maxSide}
 use Rattle.lcr_core.specs.Passed.{Sides}
-use Rattle.binary.specs.Line.{pixel, row, column}
+use Rattle.binary.specs.Line.{pixel}
 use Rattle.ratio.specs.Ratio.{matchOf}
 use Rattle.ratio.specs.declared.Match.{Match}
-use Rattle.ratio.specs.declared.Match.the-variants.{Module, Nothing}
+use Rattle.ratio.specs.declared.Match.the-variants as match
+use Rattle.confirm.specs.Confirm.{confirmedOn}
+use Rattle.confirm.specs.declared.Confirmed.{Confirmed}
+use Rattle.confirm.specs.declared.Confirmed.the-variants.{Point, Nothing}
 use Rattle.finders.specs.declared.search.Line.{Line}
-use Rattle.finders.specs.Hits.{runs, hitIf, window, hits, lineHits}
+use Rattle.finders.specs.Hits.{Hit, runs, hitIf, window, hits, lineHits}
 use Rattle.finders.specs.Held.{Held, held, mergeNext}
-use Rattle.finders.specs.Search.{maxFinders, seen, everySecond, rowSightings, columnSightings, sightings, found}
-use Rattle.finders.specs.Inner.{Fine, lineAt, lineCount, taken, scanned, scannedAt, axis}
-use Rattle.finders.proofs.Folding.{folded-same, folded-flatMap}
+use Rattle.finders.specs.Search.{maxFinders, sighting, seen, everySecond, rowSightings, columnSightings, sightings, found}
+use Rattle.finders.specs.Inner.{Fine, lineAt, lineCount, lineSightings, scanned, scannedAt, axis}
+use Rattle.finders.proofs.Folding.{folded-flatMap}
 use Rattle.finders.proofs.Tables.{fine-mono, folded-fine}
 
 -- ---- a line of len pixels has at most len + 1 runs, and no more hits than runs
@@ -28,8 +31,8 @@ unfolding window
 window-one end a b c d e = go (matchOf a b c d e) _
   where
     go : (m : Match) (x : Float) → length (hitIf m x) ≤ 1
-    go (Module m) x = omega arith
-    go Nothing x = omega arith
+    go (match.Module m) x = omega arith
+    go match.Nothing x = omega arith
 
 hits-length : (p : ℕ) (rs : List ℕ) → length (hits p rs) ≤ length rs
 unfolding hits
@@ -57,10 +60,21 @@ unfolding lineHits
 hits-few f len = omega (arith, hits-length 0 (runs f true 0 0 len), runs-length f true 0 0 len)
 
 module _ (bits : List ℕ) (width height : ℕ) where
+  -- and no more confirmed hits than hits
+  seen-one : (columns : Bool) (n : ℕ) (h : Hit) → length (seen bits width height columns n h) ≤ 1
+  seen-one columns n h = go (confirmedOn bits width height columns n (h .centre) (h .pitch))
+    where
+      go : (c : Confirmed) → length (sighting (h .pitch) c) ≤ 1
+      go (Point x y) = omega arith
+      go Nothing = omega arith
+
+  sightings-few : (l : Line) → length (lineSightings bits width height l) ≤ l .len + 1
+  sightings-few l =
+      omega (arith, flatMap-few (seen bits width height (l .columns) (l .number)) (seen-one (l .columns) (l .number)) (lineHits (pixel bits (l .start) (l .stride)) (l .len)), hits-few (pixel bits (l .start) (l .stride)) (l .len))
+
   pub scanned-fine : (s : Held) (l : Line) (k : ℕ) → l .len ≤ maxSide → Fine s k → Fine (scanned bits width height s l) (k + 4097)
   scanned-fine s l k h f =
-      fine-mono (scanned bits width height s l) (k + length (lineHits (pixel bits (l .start) (l .stride)) (l .len))) (k + 4097) (omega (arith, hits-few (pixel bits (l .start) (l .stride)) (l .len)))
-      (folded-fine bits width height (l .columns) (l .number) s (lineHits (pixel bits (l .start) (l .stride)) (l .len)) k f)
+      fine-mono (scanned bits width height s l) (k + length (lineSightings bits width height l)) (k + 4097) (omega (arith, sightings-few l)) (folded-fine s (lineSightings bits width height l) k f)
 
   module _ (p : Sides width height) (columns : Bool) where
     pub line-short : (n : ℕ) → lineAt width height columns n .len ≤ maxSide
@@ -91,18 +105,25 @@ module _ (bits : List ℕ) (width height : ℕ) where
         fine-mono (folded (scannedAt bits width height columns) s (range 0 c)) (k + 4097 * length (range 0 c)) (k + 4097 * 2048) (omega (arith, count-small, length-count 0 (c - 0)))
         (lines-fine s (range 0 c) k f)
 
+  -- ---- the first hit of several, confirmed or not
+  module _ (columns : Bool) (n : ℕ) (hs : List Hit) (h : Hit) (rest : List Hit) (is : hs ≡ h ∷ rest) (c : Confirmed) (z : c ≡ confirmedOn bits width height columns n (h .centre) (h .pitch)) where
+    pub sighted-first : (x y : Float) → c ≡ Point x y
+        → flatMap (seen bits width height columns n) hs ≡ record { x = x; y = y; pitch = h .pitch } ∷ flatMap (seen bits width height columns n) rest
+    unfolding flatMap
+    sighted-first x y e = rw (is, ← z, e)
+
+    pub sighted-later : c ≡ Nothing → flatMap (seen bits width height columns n) hs ≡ flatMap (seen bits width height columns n) rest
+    unfolding flatMap
+    sighted-later e = rw (is, ← z, e)
+
   -- ---- rows, then columns
   rows-are : (s : Held) → folded (mergeNext maxFinders) s (everySecond (rowSightings bits width height) height) ≡ axis bits width height false s
-  unfolding axis taken
-  rows-are s =
-      folded-flatMap (mergeNext maxFinders) (λ k. rowSightings bits width height (2 * k)) s (range 0 ((height + 1) / 2))
-      ∙ folded-same _ (scannedAt bits width height false) (λ u k. folded-flatMap (mergeNext maxFinders) (seen bits width height false (2 * k)) u (lineHits (row bits width (2 * k)) width)) s (range 0 ((height + 1) / 2))
+  unfolding axis
+  rows-are s = folded-flatMap (mergeNext maxFinders) (λ k. rowSightings bits width height (2 * k)) s (range 0 ((height + 1) / 2))
 
   columns-are : (s : Held) → folded (mergeNext maxFinders) s (everySecond (columnSightings bits width height) width) ≡ axis bits width height true s
-  unfolding axis taken
-  columns-are s =
-      folded-flatMap (mergeNext maxFinders) (λ k. columnSightings bits width height (2 * k)) s (range 0 ((width + 1) / 2))
-      ∙ folded-same _ (scannedAt bits width height true) (λ u k. folded-flatMap (mergeNext maxFinders) (seen bits width height true (2 * k)) u (lineHits (column bits width (2 * k)) height)) s (range 0 ((width + 1) / 2))
+  unfolding axis
+  columns-are s = folded-flatMap (mergeNext maxFinders) (λ k. columnSightings bits width height (2 * k)) s (range 0 ((width + 1) / 2))
 
   pub found-is : found bits width height ≡ axis bits width height true (axis bits width height false (held []))
   unfolding found sightings

@@ -11,11 +11,6 @@ use Rattle.lists.specs.Lists.{folded, flatMap, those}
 use Rattle.lists.proofs.Folds.{folded-append}
 
 module _ {S A : Type 0} where
-  pub folded-same : (g h : S → A → S) → ((s : S) (a : A) → g s a ≡ h s a) → (s : S) (xs : List A) → folded g s xs ≡ folded h s xs
-  unfolding folded
-  folded-same g h e s [] = refl
-  folded-same g h e s (x ∷ xs) = rw (e s x) (folded-same g h e (h s x) xs)
-
   pub folded-those : (g : S → A → S) (p : A → Bool) (s : S) (xs : List A) → folded g s (those p xs) ≡ folded (λ (u : S) (a : A). cond (p a) (g u a) u) s xs
   unfolding folded those
   folded-those g p s [] = refl

@@ -5,25 +5,20 @@ use mathlib.Core.List.{List, [], _∷_, _++_}
 use Prim.Native.Nat.{ℕ, suc, _+_, _-_, _^_, _≤_, _<_}
 use native.Mathlib.Omega.{arith}
 use lib.Dec.{leb}
-use lib.Ieee.{Float}
 use lib.ListN.{length, getD, set, replicate, length-append, length-set}
 use lib.Seq.{set-append-left, getD-take}
 use borrow.Author.Tests.{leb-true}
 use Rattle.lists.specs.Lists.{folded, firstWhere, padded}
 use Rattle.lists.proofs.Filters.{each-getD}
 use Rattle.lists.proofs.Padded.{take-padded, getD-padded, padded-more, length-padded}
-use Rattle.confirm.specs.Confirm.{confirmedOn}
-use Rattle.confirm.specs.declared.Confirmed.{Confirmed}
-use Rattle.confirm.specs.declared.Confirmed.the-variants.{Point, Nothing}
 use Rattle.geometry.specs.declared.Finder.{Finder}
 use Rattle.finders.specs.declared.Finders.{Finders}
 use Rattle.finders.specs.declared.held.Merged.{Merged}
-use Rattle.finders.specs.Hits.{Hit}
 use Rattle.finders.specs.Held.{Sighting, Held, held, over, within, join, fresh, place, merge, mergeNext}
-use Rattle.finders.specs.Search.{maxFinders, sighting, seen}
+use Rattle.finders.specs.Search.{maxFinders}
 use Rattle.finders.specs.Answer.{tableOf, heldIn}
 use Rattle.geometry.specs.Order.{zeroFinder}
-use Rattle.finders.specs.Inner.{mergedOf, heldOf, Bounded, Good, Fine, Sound, taken}
+use Rattle.finders.specs.Inner.{mergedOf, heldOf, Bounded, Good, Fine, Sound}
 use Rattle.finders.proofs.Places.{merge-join, merge-new, merge-over, bounded-mono, place-bounded}
 
 -- ---- a table and the list that it holds
@@ -112,32 +107,15 @@ good-of t s e =
     let c : t .finders .count ≡ length (heldIn (t .finders)) = ap (λ (z : Finders). z .count) (open-rest t (2 ^ 32 - 2) s e) in
     record { few = omega (arith, c, f .0); rest = open-rest t (2 ^ 32 - 2) s e; counts = f .1 }
 
--- ---- a hit where the table is full, one that is not confirmed, and one that is
-over-stays : (limit : ℕ) (ss : List Sighting) → folded (mergeNext limit) over ss ≡ over
-unfolding folded
-over-stays limit [] = refl
-over-stays limit (s ∷ ss) = over-stays limit ss
-
-module _ (bits : List ℕ) (width height : ℕ) (columns : Bool) (n : ℕ) (t : Merged) (k : ℕ) (s : Sound t k) (h : Hit) where
-  pub hit-full : t .full ≡ true → t ≡ mergedOf (taken bits width height columns n (heldOf t) h)
-  unfolding taken
+-- ---- a hit where the table is full, and one where it is not
+module _ (t : Merged) (k : ℕ) (s : Sound t k) (h : Sighting) where
+  pub hit-full : t .full ≡ true → t ≡ mergedOf (mergeNext maxFinders (heldOf t) h)
   hit-full f =
       let o : heldOf t ≡ over = rw f in
-      s .is ∙ ap mergedOf (o ∙ sym (over-stays maxFinders (seen bits width height columns n h)) ∙ ap (λ z. folded (mergeNext maxFinders) z (seen bits width height columns n h)) (sym o))
+      s .is ∙ ap mergedOf (o ∙ ap (λ z. mergeNext maxFinders z h) (sym o))
 
-  module _ (f : t .full ≡ false) (c : Confirmed) (z : c ≡ confirmedOn bits width height columns n (h .centre) (h .pitch)) where
-    hit-step : taken bits width height columns n (heldOf t) h ≡ folded (mergeNext maxFinders) (held (heldIn (t .finders))) (sighting (h .pitch) c)
-    unfolding taken
-    hit-step = rw (open-held t k s f, z)
-
-    pub hit-unseen : c ≡ Nothing → t ≡ mergedOf (taken bits width height columns n (heldOf t) h)
-    unfolding folded
-    hit-unseen u = s .is ∙ ap mergedOf (open-held t k s f ∙ ap (λ y. folded (mergeNext maxFinders) (held (heldIn (t .finders))) (sighting (h .pitch) y)) (sym u) ∙ sym hit-step)
-
-    pub hit-point : (px py : Float) (r : Merged) → c ≡ Point px py → r ≡ mergedOf (merge maxFinders (heldIn (t .finders)) (record { x = px; y = py; pitch = h .pitch }))
-        → r ≡ mergedOf (taken bits width height columns n (heldOf t) h)
-    unfolding folded
-    hit-point px py r u v = v ∙ ap mergedOf (ap (λ y. folded (mergeNext maxFinders) (held (heldIn (t .finders))) (sighting (h .pitch) y)) (sym u) ∙ sym hit-step)
+  pub hit-open : t .full ≡ false → (r : Merged) → r ≡ mergedOf (merge maxFinders (heldIn (t .finders)) h) → r ≡ mergedOf (mergeNext maxFinders (heldOf t) h)
+  hit-open f r v = v ∙ ap (λ z. mergedOf (mergeNext maxFinders z h)) (sym (open-held t k s f))
 
 -- ---- the counts grow by one with a hit
 pub fine-mono : (s : Held) (j k : ℕ) → j ≤ k → Fine s j → Fine s k
@@ -160,19 +138,13 @@ sound-of r s k e f =
 pub sound-mono : (t : Merged) (j k : ℕ) → j ≤ k → Sound t j → Sound t k
 sound-mono t j k h s = record { is = s .is; fine = fine-mono (heldOf t) j k h (s .fine) }
 
-module _ (bits : List ℕ) (width height : ℕ) (columns : Bool) (n : ℕ) where
-  pub taken-fine : (s : Held) (h : Hit) (k : ℕ) → Fine s k → Fine (taken bits width height columns n s h) (k + 1)
-  unfolding taken folded
-  taken-fine s h k f = go (confirmedOn bits width height columns n (h .centre) (h .pitch)) s f
-    where
-      go : (c : Confirmed) (s : Held) → Fine s k → Fine (folded (mergeNext maxFinders) s (sighting (h .pitch) c)) (k + 1)
-      go Nothing s f = fine-mono s k (k + 1) (omega arith) f
-      go (Point x y) over f = tt
-      go (Point x y) (held fs) f = merge-fine fs (record { x = x; y = y; pitch = h .pitch }) k (f .1)
+pub next-fine : (s : Held) (h : Sighting) (k : ℕ) → Fine s k → Fine (mergeNext maxFinders s h) (k + 1)
+next-fine over h k f = tt
+next-fine (held fs) h k f = merge-fine fs h k (f .1)
 
-  pub folded-fine : (s : Held) (hs : List Hit) (k : ℕ) → Fine s k → Fine (folded (taken bits width height columns n) s hs) (k + length hs)
-  unfolding folded
-  folded-fine s [] k f = fine-mono s k (k + 0) (omega arith) f
-  folded-fine s (h ∷ hs) k f =
-      fine-mono (folded (taken bits width height columns n) (taken bits width height columns n s h) hs) (k + 1 + length hs) (k + suc (length hs)) (omega arith)
-      (folded-fine (taken bits width height columns n s h) hs (k + 1) (taken-fine s h k f))
+pub folded-fine : (s : Held) (hs : List Sighting) (k : ℕ) → Fine s k → Fine (folded (mergeNext maxFinders) s hs) (k + length hs)
+unfolding folded
+folded-fine s [] k f = fine-mono s k (k + 0) (omega arith) f
+folded-fine s (h ∷ hs) k f =
+    fine-mono (folded (mergeNext maxFinders) (mergeNext maxFinders s h) hs) (k + 1 + length hs) (k + suc (length hs)) (omega arith)
+    (folded-fine (mergeNext maxFinders s h) hs (k + 1) (next-fine s h k f))

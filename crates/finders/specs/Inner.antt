@@ -5,10 +5,10 @@ use mathlib.Core.Bool.{Bool, true, false, cond}
 use mathlib.Core.List.{List, [], _∷_}
 use lib.Dec.{ltb}
 use lib.ListN.{length}
-use Rattle.lists.specs.Lists.{Each, range, folded, firstWhere}
+use Rattle.lists.specs.Lists.{Each, range, folded, firstWhere, flatMap}
 use Rattle.binary.specs.Line.{pixel}
 use Rattle.finders.specs.Hits.{Hit, runs, hits, lineHits}
-use Rattle.finders.specs.Held.{Held, held, over, mergeNext}
+use Rattle.finders.specs.Held.{Sighting, Held, held, over, mergeNext}
 use Rattle.finders.specs.Search.{maxFinders, seen}
 use Rattle.finders.specs.Rank.{insert, stays, ranked}
 use Rattle.finders.specs.Answer.{tableOf, heldIn}
@@ -20,6 +20,8 @@ use Rattle.finders.specs.declared.search.Line.{Line}
 use Rattle.finders.specs.declared.search.Window.{Window}
 use Rattle.finders.specs.declared.search.Next.{Next}
 use Rattle.finders.specs.declared.search.Next.the-variants.{Hit as NextHit, End}
+use Rattle.finders.specs.declared.search.Sighted.{Sighted}
+use Rattle.finders.specs.declared.search.Sighted.the-variants as sighted
 
 -- ---- the table
 abbrev pub mergedOf : Held → Merged
@@ -75,13 +77,24 @@ lineCount width height true = width
 lineCount width height false = height
 
 module _ (bits : List ℕ) (width height : ℕ) where
-  -- after one hit on row or column n
-  unfoldable pub taken : Bool → ℕ → Held → Hit → Held
-  taken columns n s h = folded (mergeNext maxFinders) s (seen bits width height columns n h)
+  -- the confirmed hits of a line
+  abbrev pub lineSightings : Line → List Sighting
+  lineSightings l = flatMap (seen bits width height (l .columns) (l .number)) (lineHits (pixel bits (l .start) (l .stride)) (l .len))
+
+  -- those after a window
+  abbrev pub sightingsAfter : Line → Window → List Sighting
+  sightingsAfter l w = flatMap (seen bits width height (l .columns) (l .number)) (hitsAfter (pixel bits (l .start) (l .stride)) (l .len) w)
+
+  -- the first of them, with the window that it ends
+  abbrev pub SightedIs : Line → Window → Sighted → Type 0
+  SightedIs l w sighted.End = sightingsAfter l w ≡ []
+  SightedIs l w (sighted.At x y m v) =
+      (sightingsAfter l w ≡ record { x = x; y = y; pitch = m } ∷ sightingsAfter l v)
+      × (w .at < v .at) × (v .at ≤ l .len) × (v .c + v .d + v .e ≤ v .at)
 
   -- after those of a line
   abbrev pub scanned : Held → Line → Held
-  scanned s l = folded (taken (l .columns) (l .number)) s (lineHits (pixel bits (l .start) (l .stride)) (l .len))
+  scanned s l = folded (mergeNext maxFinders) s (lineSightings l)
 
   -- after those of every second line of the axis
   abbrev pub scannedAt : Bool → Held → ℕ → Held

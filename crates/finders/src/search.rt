@@ -4,11 +4,14 @@ ghost use Prim.Native.Nat.{_+_, _-_, _≤_, _^_};
 ghost use Rattle.lcr_core.specs.Passed.{Sides};
 ghost use Rattle.lcr_core.specs.Outcome.{maxSide};
 ghost use Rattle.binary.specs.Line.{pixel};
-ghost use Rattle.finders.specs.Inner.{mergedOf, heldOf, Sound, NextIs, taken, scanned, lineAt, lineCount, axis};
+ghost use Rattle.finders.specs.Held.{mergeNext};
+ghost use Rattle.finders.specs.Search.{maxFinders};
+ghost use Rattle.finders.specs.Inner.{mergedOf, heldOf, Sound, NextIs, SightedIs, scanned, lineAt, lineCount, axis};
 use crate::held::Merged;
 use crate::held::merge_into;
 use binary::line::run_on;
 use confirm::Confirmed;
+use confirm::confirm_hit;
 use ratio::Match;
 
 // A line to scan: row or column `number`, its pixels `start`, `start + stride` and so on, `len` of them.
@@ -31,6 +34,12 @@ pub struct Window {
 // A hit's centre and module, and the window after it.
 pub enum Next {
     Hit(f32, f32, Window),
+    End,
+}
+
+// A confirmed hit's x, y and module, and the window after it.
+pub enum Sighted {
+    At(f32, f32, f32, Window),
     End,
 }
 
@@ -72,44 +81,49 @@ pub fn next_hit(bits: &[u8], start: u32, stride: u32, len: u16, w: Window) -> Ne
     Next::End
 }
 
-// What a hit on row or column `number` adds to the finders.
-pub fn take_hit(
-    bits: &[u8],
-    width: u16,
-    height: u16,
-    columns: bool,
-    number: u16,
-    centre: f32,
-    module: f32,
-    t: Merged,
-) -> Merged
-    requires { ⌜ Sound t (2 ^ 32 - 2) ⌝ }
-    ensures { λ r. ⌜ r ≡ mergedOf (taken (now (bits .entry)) width height columns number (heldOf t) (record { centre = centre; pitch = «module» })) ⌝ }
-{
-    if t.full {
-        return t;
-    }
-    match confirm::confirm_hit(bits, width, height, columns, number, centre, module) {
-        Confirmed::Point(x, y) => {
-            let held = t.finders;
-            merge_into(held, x, y, module)
-        }
-        Confirmed::Nothing => t,
-    }
-}
-
-// The table is passed along only where there is a hit.
-pub fn scan_line(bits: &[u8], width: u16, height: u16, line: Line, t: Merged) -> Merged
-    requires { ⌜ line .len ≤ maxSide ⌝ }
-    requires { ⌜ Sound t (2 ^ 32 - 2 - maxSide) ⌝ }
-    ensures { λ r. ⌜ r ≡ mergedOf (scanned (now (bits .entry)) width height (heldOf t) line) ⌝ }
+// The first confirmed hit of the line after a window.
+pub fn next_sighting(bits: &[u8], width: u16, height: u16, line: Line, w: Window) -> Sighted
+    requires { ⌜ (w .at ≤ line .len) × (w .c + w .d + w .e ≤ w .at) ⌝ }
+    ensures { λ r. ⌜ SightedIs (now (bits .entry)) width height line w r ⌝ }
 {
     let columns = line.columns;
     let number = line.number;
     let start = line.start;
     let stride = line.stride;
     let len = line.len;
-    let first = run_on(bits, start, stride, 0, len, true);
+    let mut v = w;
+    loop {
+        match next_hit(bits, start, stride, len, v) {
+            Next::Hit(centre, module, after) => {
+                match confirm_hit(bits, width, height, columns, number, centre, module) {
+                    Confirmed::Point(x, y) => return Sighted::At(x, y, module, after),
+                    Confirmed::Nothing => v = after,
+                }
+            }
+            Next::End => return Sighted::End,
+        }
+    }
+}
+
+// What a confirmed hit adds to the finders.
+pub fn add_hit(t: Merged, x: f32, y: f32, module: f32) -> Merged
+    requires { ⌜ Sound t (2 ^ 32 - 2) ⌝ }
+    ensures { λ r. ⌜ r ≡ mergedOf (mergeNext maxFinders (heldOf t) (record { x = x; y = y; pitch = «module» })) ⌝ }
+{
+    if t.full {
+        return t;
+    }
+    let held = t.finders;
+    merge_into(held, x, y, module)
+}
+
+// The table is passed along only where a hit is confirmed.
+pub fn scan_line(bits: &[u8], width: u16, height: u16, line: Line, t: Merged) -> Merged
+    requires { ⌜ line .len ≤ maxSide ⌝ }
+    requires { ⌜ Sound t (2 ^ 32 - 2 - maxSide) ⌝ }
+    ensures { λ r. ⌜ r ≡ mergedOf (scanned (now (bits .entry)) width height (heldOf t) line) ⌝ }
+{
+    let first = run_on(bits, line.start, line.stride, 0, line.len, true);
     let mut w = Window {
         c: 0,
         d: 0,
@@ -118,12 +132,12 @@ pub fn scan_line(bits: &[u8], width: u16, height: u16, line: Line, t: Merged) ->
     };
     let mut out = t;
     loop {
-        match next_hit(bits, start, stride, len, w) {
-            Next::Hit(centre, module, after) => {
-                out = take_hit(bits, width, height, columns, number, centre, module, out);
+        match next_sighting(bits, width, height, line, w) {
+            Sighted::At(x, y, module, after) => {
+                out = add_hit(out, x, y, module);
                 w = after;
             }
-            Next::End => return out,
+            Sighted::End => return out,
         }
     }
 }
