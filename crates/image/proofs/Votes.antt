@@ -19,7 +19,8 @@ use Rattle.lcr_core.specs.Outcome.{zeroSide, largeSide}
 use Rattle.lcr_core.proofs.Checks.{first-passes, sides-pass}
 use Rattle.image.specs.Passed.{DenoisedPassed}
 use Rattle.image.specs.Denoise.{denoisedRefusal, inside, votes, denoisedAt}
-use Rattle.image.specs.Window.{behind, majorityOf, chosenAt}
+use Rattle.image.specs.Window.{behind, chosenAt, padOf, upOf, midOf, downOf, stretch, Held, votedAt}
+use Rattle.image.specs.declared.denoise.Rows.{Rows}
 use Rattle.image.proofs.Windows.{behind-at, three-pixels, bit-at, copy-at}
 
 ones-bit : (d : Bool) → ones (bit d) ≡ bit d
@@ -85,49 +86,43 @@ within w h x y e = go (ltb 0 x) refl (ltb (x + 1) w) refl (ltb 0 y) refl (ltb (y
     go true f false g v i z j k = absurd (true≢false (sym k))
     go false f u g v i z j k = absurd (true≢false (sym k))
 
--- ---- byte j of a picture of w columns, from the three rows' bytes behind pad light ones
-module _ (b : List ℕ) (w h j pad : ℕ) (room : w < pad * 8) where
-  abbrev rowsFrom : ℕ → ℕ
-  rowsFrom first = word (behind pad b) ((j + first / 8) * 8) 24 / 2 ^ (14 - first % 8)
-
+-- ---- byte j, from three rows' bytes
+module _ (b : List ℕ) (w h j : ℕ) (s : Rows) (held : Held b w j s) where
   -- three pixels of one of the rows
-  three-of : (first k i : ℕ) → i < 8 → j * 8 + i + first ≡ pad * 8 + k → rowsFrom first / 2 ^ (7 - i) % 8 ≡ word (darkBit b) k 3
-  three-of first k i l e =
-      let at : (j + first / 8) * 8 + first % 8 + i ≡ pad * 8 + k = omega arith in
-      three-pixels (behind pad b) (j + first / 8) (first % 8) i (omega arith) l
-      ∙ word-same (behind pad b) (darkBit b) ((j + first / 8) * 8 + first % 8 + i) k 3 (λ m _.
-      let s : (j + first / 8) * 8 + first % 8 + i + m ≡ pad * 8 + (k + m) = omega arith in
-      ap (behind pad b) s ∙ behind-at pad b (k + m))
+  three-of : (first k i bytes : ℕ) → bytes ≡ stretch b w j 24 first → i < 8 → j * 8 + i + first ≡ padOf w * 8 + k
+      → bytes / 2 ^ (14 - first % 8) / 2 ^ (7 - i) % 8 ≡ word (darkBit b) k 3
+  three-of first k i bytes f l e =
+      rw f
+      (three-pixels (behind (padOf w) b) (j + first / 8) (first % 8) i (omega arith) l
+      ∙ word-same (behind (padOf w) b) (darkBit b) ((j + first / 8) * 8 + first % 8 + i) k 3 (λ m _.
+      let q : (j + first / 8) * 8 + first % 8 + i + m ≡ padOf w * 8 + (k + m) = omega arith in
+      ap (behind (padOf w) b) q ∙ behind-at (padOf w) b (k + m)))
 
   -- the majority about a pixel inside
-  majority-at : (i : ℕ) → i < 8 → let k = j * 8 + i in inside w h (k % w) (k / w) ≡ true
-      → majorityOf (rowsFrom (pad * 8 - w - 1)) (rowsFrom (pad * 8 - 1)) (rowsFrom (pad * 8 + w - 1)) (7 - i) ≡ leb 5 (votes b w h (k % w) (k / w))
+  majority-at : (i : ℕ) → i < 8 → let k = j * 8 + i in inside w h (k % w) (k / w) ≡ true → votedAt w s i ≡ leb 5 (votes b w h (k % w) (k / w))
   majority-at i l e =
       let k = j * 8 + i in
       let r = within w h (k % w) (k / w) e in
       let whole : k / w * w + k % w ≡ k = div-add-mod' k w in
       let least = mul-le-mul-right {m = 1} {n = k / w} w (r .2) in
       rw (
-        three-of (pad * 8 - w - 1) (k - w - 1) i l (omega arith),
-        three-of (pad * 8 - 1) (k - 1) i l (omega arith),
-        three-of (pad * 8 + w - 1) (k + w - 1) i l (omega arith),
+        three-of (upOf w) (k - w - 1) i (s .above) (held .above) l (omega arith),
+        three-of (midOf w) (k - 1) i (s .row) (held .row) l (omega arith),
+        three-of (downOf w) (k + w - 1) i (s .below) (held .below) l (omega arith),
         window-votes b w h (k % w) (k / w) (r .0) (r .1) k (r .2) (r .3) (sym whole),
       )
 
-  -- a row's pixels as they are read
-  pub row-from : (first three ten : ℕ) → three ≡ word (behind pad b) ((j + first / 8) * 8) 24 → ten ≡ three / 2 ^ (14 - first % 8) → ten ≡ rowsFrom first
-  row-from first three ten e q = rw (q, e)
-
   -- all eight pixels
-  pub denoised-byte : (above row below voted byte : ℕ) → above ≡ rowsFrom (pad * 8 - w - 1) → row ≡ rowsFrom (pad * 8 - 1) → below ≡ rowsFrom (pad * 8 + w - 1)
-      → voted ≡ word (λ i. majorityOf above row below (7 - i)) 0 8 → byte ≡ word (chosenAt voted (getD b j 0) w h (j * 8)) 0 8 → byte ≡ byteOf (denoisedAt b w h) j
+  pub denoised-byte : (voted byte : ℕ) → voted ≡ word (votedAt w s) 0 8 → byte ≡ word (chosenAt voted (getD b j 0) w h (j * 8)) 0 8
+      → byte ≡ byteOf (denoisedAt b w h) j
   unfolding denoisedAt
-  denoised-byte above row below voted byte e1 e2 e3 v e =
+  denoised-byte voted byte v e =
       e ∙ word-same (chosenAt voted (getD b j 0) w h (j * 8)) (denoisedAt b w h) 0 (j * 8) 8 (λ i l.
       rw (zero-add i) (pixel i l (inside w h ((j * 8 + i) % w) ((j * 8 + i) / w)) refl))
     where
-      pixel : (i : ℕ) → i < 8 → (t : Bool) → inside w h ((j * 8 + i) % w) ((j * 8 + i) / w) ≡ t → chosenAt voted (getD b j 0) w h (j * 8) i ≡ denoisedAt b w h (j * 8 + i)
-      pixel i l true q = rw q (bit-at _ voted i l v ∙ rw (e1, e2, e3) (majority-at i l q))
+      pixel : (i : ℕ) → i < 8 → (t : Bool) → inside w h ((j * 8 + i) % w) ((j * 8 + i) / w) ≡ t
+          → chosenAt voted (getD b j 0) w h (j * 8) i ≡ denoisedAt b w h (j * 8 + i)
+      pixel i l true q = rw q (bit-at _ voted i l v ∙ majority-at i l q)
       pixel i l false q = rw q (copy-at b j i l)
 
 -- what is known where denoising does not refuse

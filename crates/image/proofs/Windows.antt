@@ -3,7 +3,7 @@ use mathlib.Core.Path.{_≡_, ap, _∙_}
 use mathlib.Core.Bool.{Bool, true, false, cond}
 use mathlib.Core.List.{List}
 use Prim.Native.Nat.{ℕ, _+_, _-_, _*_, _/_, _%_, _^_, _≤_, _<_}
-use native.Mathlib.Nat.{zero-add, div-add-mod'}
+use native.Mathlib.Nat.{zero-add, mod-eq-of-lt, div-add-mod'}
 use native.Mathlib.Numerals.{add-one}
 use native.Mathlib.Omega.{arith}
 use lib.ListN.{length, getD}
@@ -14,7 +14,7 @@ use Rattle.binary.specs.Binary.{bit, darkBit, word, byteOf}
 use Rattle.binary.proofs.Bits.{bit-one, word-bound, word-low, dark-past, digit}
 use Rattle.binary.proofs.Words.{word-same, word-light, word-append, word-part, word-digit, word-digits, byte-word}
 use Rattle.image.specs.Denoise.{inside}
-use Rattle.image.specs.Window.{behind, bitAt, chosenAt}
+use Rattle.image.specs.Window.{behind, bitAt, chosenAt, padOf, stretch}
 
 -- ---- the picture behind light bytes
 module _ (pad : ℕ) (b : List ℕ) where
@@ -60,6 +60,20 @@ module _ (p : ℕ → Bool) (i : ℕ) where
       let all : 24 ≡ f + k + 3 + (14 - f + (7 - k)) = omega arith in
       let at : i * 8 + (f + k) ≡ i * 8 + f + k = omega arith in
       rw (shr-shr, all) (word-part p (i * 8) (f + k) 3 (14 - f + (7 - k)) ∙ rw at)
+
+-- ---- a row's bytes as they are read, where pad light bytes are in front and the row starts at pixel f
+module _ (b : List ℕ) (w pad first f bytes : ℕ) (p : pad ≡ padOf w) (q : first ≡ f) where
+  pub read-two : bytes ≡ word (behind pad b) (first / 8 * 8) 16 → bytes % 65536 ≡ stretch b w 0 16 f
+  read-two e = rw (zero-add, ← p, ← q, e) (mod-eq-of-lt (word-bound (behind pad b) (first / 8 * 8) 16))
+
+  pub read-three : (j : ℕ) → bytes ≡ word (behind pad b) ((j + first / 8) * 8) 24 → bytes ≡ stretch b w j 24 f
+  read-three j e = rw (← p, ← q) e
+
+  pub next-two : (j : ℕ) → bytes % 65536 ≡ word (behind pad b) ((j + first / 8 + 1) * 8) 16 → bytes % 65536 ≡ stretch b w (j + 1) 16 f
+  next-two j e = let s : j + 1 + first / 8 ≡ j + first / 8 + 1 = omega arith in rw (← p, ← q, s) e
+
+  pub have-two : (j : ℕ) → bytes % 65536 ≡ stretch b w j 16 f → bytes % 65536 ≡ word (behind pad b) ((j + first / 8) * 8) 16
+  have-two j e = rw (p, q) e
 
 -- ---- eight pixels, voted or copied
 

@@ -9,7 +9,7 @@ ghost use Rattle.lcr_core.specs.Outcome.{numberOf};
 ghost use Rattle.binary.specs.Binary.{bit, word, byteOf, bytesOf};
 ghost use Rattle.image.specs.Denoise.{denoisedRefusal, inside, denoisedAt, denoisedWritten};
 ghost use Rattle.image.specs.Passed.{DenoisedPassed};
-ghost use Rattle.image.specs.Window.{behind, majorityOf, chosenAt};
+ghost use Rattle.image.specs.Window.{behind, majorityOf, chosenAt, padOf, upOf, midOf, downOf, Ready, Held, votedAt};
 
 // What denoising refuses of `len` bytes of bits, with `room` bytes for the result.
 pub fn check_denoised(len: usize, width: u32, height: u32, room: usize) -> Outcome
@@ -162,31 +162,92 @@ fn chosen(voted: u8, copied: u8, w: u32, h: u32, n: u32) -> u8
     chosen_each(voted, copied, w, h, n)
 }
 
-// All bytes of a picture that passed the checks, in one pass along three rows: of each, three bytes are at hand.
+// The bytes at hand of the rows above, through and below a pixel. The last two of each are needed again for the next eight pixels.
+struct Rows {
+    above: u32,
+    row: u32,
+    below: u32,
+}
+
+// So many light bytes stand in front of a picture of w columns: behind them every pixel has a row above.
+fn pad_of(w: usize) -> usize
+    requires { ⌜ w ≤ 4096 ⌝ }
+    ensures { λ r. ⌜ r ≡ padOf w ⌝ }
+{
+    (w + 8) / 8
+}
+
+// Behind them, the first pixel of the three rows about pixel 0: the one above and left of it, ..
+fn up_of(w: usize) -> usize
+    requires { ⌜ w ≤ 4096 ⌝ }
+    ensures { λ r. ⌜ r ≡ upOf w ⌝ }
+{
+    pad_of(w) * 8 - w - 1
+}
+
+// .. the one left of it, ..
+fn mid_of(w: usize) -> usize
+    requires { ⌜ w ≤ 4096 ⌝ }
+    ensures { λ r. ⌜ r ≡ midOf w ⌝ }
+{
+    pad_of(w) * 8 - 1
+}
+
+// .. and the one below and left of it.
+fn down_of(w: usize) -> usize
+    requires { ⌜ w ≤ 4096 ⌝ }
+    ensures { λ r. ⌜ r ≡ downOf w ⌝ }
+{
+    pad_of(w) * 8 + w - 1
+}
+
+// Two bytes of each row, before the first eight pixels.
+fn first_rows(bits: &[u8], w: usize) -> Rows
+    requires { ⌜ w ≤ 4096 ⌝ }
+    ensures { λ r. ⌜ Ready (now (bits .entry)) w 0 r ⌝ }
+{
+    let pad = pad_of(w);
+    let above = two_bytes(bits, pad, up_of(w) / 8);
+    let row = two_bytes(bits, pad, mid_of(w) / 8);
+    let below = two_bytes(bits, pad, down_of(w) / 8);
+    Rows { above, row, below }
+}
+
+// Three bytes of each row, for the pixels of byte j.
+fn next_rows(bits: &[u8], w: usize, j: usize, rows: Rows) -> Rows
+    requires { ⌜ (w ≤ 4096) × (j ≤ 16777216) × Ready (now bits) w j rows ⌝ }
+    ensures held { λ r. ⌜ Held (now (bits .entry)) w j r ⌝ }
+    ensures ready { λ r. ⌜ Ready (now (bits .entry)) w (j + 1) r ⌝ }
+{
+    let pad = pad_of(w);
+    let above = three_bytes(bits, pad, j + up_of(w) / 8, rows.above);
+    let row = three_bytes(bits, pad, j + mid_of(w) / 8, rows.row);
+    let below = three_bytes(bits, pad, j + down_of(w) / 8, rows.below);
+    Rows { above, row, below }
+}
+
+// The majorities about the pixels of a byte whose rows are at hand.
+fn voted_byte(w: usize, rows: Rows) -> u8
+    requires { ⌜ w ≤ 4096 ⌝ }
+    ensures { λ r. ⌜ r ≡ word (votedAt w rows) 0 8 ⌝ }
+{
+    let above = ten_pixels(rows.above, up_of(w));
+    let row = ten_pixels(rows.row, mid_of(w));
+    let below = ten_pixels(rows.below, down_of(w));
+    majorities(above, row, below)
+}
+
+// All bytes of a picture that passed the checks, in one pass.
 fn denoise_bytes(bits: &[u8], w: u32, h: u32, out: &mut [u8])
     requires { ⌜ DenoisedPassed (length (now bits)) w h (length (now out)) ⌝ }
     ensures { λ _. ⌜ now (out .exit) ≡ filled (bytesOf (w * h)) (byteOf (denoisedAt (now (bits .entry)) w h)) (now (out .entry)) ⌝ }
 {
-    let wide = w as usize;
-    let bytes = (wide * h as usize + 7) / 8;
-    // behind these light bytes every pixel has a row above
-    let pad = (wide + 8) / 8;
-    let up = pad * 8 - wide - 1;
-    let mid = pad * 8 - 1;
-    let down = pad * 8 + wide - 1;
-    let mut above = two_bytes(bits, pad, up / 8);
-    let mut row = two_bytes(bits, pad, mid / 8);
-    let mut below = two_bytes(bits, pad, down / 8);
+    let bytes = (w as usize * h as usize + 7) / 8;
+    let mut rows = first_rows(bits, w as usize);
     let mut j = 0;
     while j < bytes {
-        above = three_bytes(bits, pad, j + up / 8, above);
-        row = three_bytes(bits, pad, j + mid / 8, row);
-        below = three_bytes(bits, pad, j + down / 8, below);
-        let voted = majorities(
-            ten_pixels(above, up),
-            ten_pixels(row, mid),
-            ten_pixels(below, down),
-        );
+        rows = next_rows(bits, w as usize, j, rows);
+        let voted = voted_byte(w as usize, rows);
         out[j] = chosen(voted, bits[j], w, h, (j * 8) as u32);
         j += 1;
     }
