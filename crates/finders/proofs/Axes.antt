@@ -21,7 +21,7 @@ use Rattle.finders.specs.declared.search.Line.{Line}
 use Rattle.finders.specs.Hits.{Hit, runs, hitIf, window, hits, lineHits}
 use Rattle.finders.specs.Held.{Held, held, mergeNext}
 use Rattle.finders.specs.Search.{maxFinders, sighting, seen, everySecond, rowSightings, columnSightings, sightings, found}
-use Rattle.finders.specs.Inner.{Fine, lineAt, lineCount, lineSightings, scanned, scannedAt, axis}
+use Rattle.finders.specs.Inner.{lineMost, axisMost, Fine, lineAt, lineCount, lineSightings, scanned, scannedAt, axis}
 use Rattle.finders.proofs.Folding.{folded-flatMap}
 use Rattle.finders.proofs.Tables.{fine-mono, folded-fine}
 
@@ -72,9 +72,9 @@ module _ (bits : List ℕ) (width height : ℕ) where
   sightings-few l =
       omega (arith, flatMap-few (seen bits width height (l .columns) (l .number)) (seen-one (l .columns) (l .number)) (lineHits (pixel bits (l .start) (l .stride)) (l .len)), hits-few (pixel bits (l .start) (l .stride)) (l .len))
 
-  pub scanned-fine : (s : Held) (l : Line) (k : ℕ) → l .len ≤ maxSide → Fine s k → Fine (scanned bits width height s l) (k + 4097)
+  pub scanned-fine : (s : Held) (l : Line) (k : ℕ) → l .len ≤ maxSide → Fine s k → Fine (scanned bits width height s l) (k + lineMost)
   scanned-fine s l k h f =
-      fine-mono (scanned bits width height s l) (k + length (lineSightings bits width height l)) (k + 4097) (omega (arith, sightings-few l)) (folded-fine s (lineSightings bits width height l) k f)
+      fine-mono (scanned bits width height s l) (k + length (lineSightings bits width height l)) (k + lineMost) (omega (arith, sightings-few l)) (folded-fine s (lineSightings bits width height l) k f)
 
   module _ (p : Sides width height) (columns : Bool) where
     pub line-short : (n : ℕ) → lineAt width height columns n .len ≤ maxSide
@@ -91,18 +91,18 @@ module _ (bits : List ℕ) (width height : ℕ) where
         go true = p .w-most
         go false = p .h-most
 
-    lines-fine : (s : Held) (ns : List ℕ) (k : ℕ) → Fine s k → Fine (folded (scannedAt bits width height columns) s ns) (k + 4097 * length ns)
+    lines-fine : (s : Held) (ns : List ℕ) (k : ℕ) → Fine s k → Fine (folded (scannedAt bits width height columns) s ns) (k + lineMost * length ns)
     unfolding folded
-    lines-fine s [] k f = fine-mono s k (k + 4097 * 0) (omega arith) f
+    lines-fine s [] k f = fine-mono s k (k + lineMost * 0) (omega arith) f
     lines-fine s (n ∷ ns) k f =
-        fine-mono (folded (scannedAt bits width height columns) (scannedAt bits width height columns s n) ns) (k + 4097 + 4097 * length ns) (k + 4097 * suc (length ns)) (omega arith)
-        (lines-fine (scannedAt bits width height columns s n) ns (k + 4097) (scanned-fine s (lineAt width height columns (2 * n)) k (line-short (2 * n)) f))
+        fine-mono (folded (scannedAt bits width height columns) (scannedAt bits width height columns s n) ns) (k + lineMost + lineMost * length ns) (k + lineMost * suc (length ns)) (omega arith)
+        (lines-fine (scannedAt bits width height columns s n) ns (k + lineMost) (scanned-fine s (lineAt width height columns (2 * n)) k (line-short (2 * n)) f))
 
-    pub axis-fine : (s : Held) (k : ℕ) → Fine s k → Fine (axis bits width height columns s) (k + 4097 * 2048)
+    pub axis-fine : (s : Held) (k : ℕ) → Fine s k → Fine (axis bits width height columns s) (k + axisMost)
     unfolding axis
     axis-fine s k f =
         let c = (lineCount width height columns + 1) / 2 in
-        fine-mono (folded (scannedAt bits width height columns) s (range 0 c)) (k + 4097 * length (range 0 c)) (k + 4097 * 2048) (omega (arith, count-small, length-count 0 (c - 0)))
+        fine-mono (folded (scannedAt bits width height columns) s (range 0 c)) (k + lineMost * length (range 0 c)) (k + axisMost) (omega (arith, count-small, length-count 0 (c - 0)))
         (lines-fine s (range 0 c) k f)
 
   -- ---- the first hit of several, confirmed or not

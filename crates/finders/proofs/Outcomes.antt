@@ -14,7 +14,7 @@ use Rattle.finders.specs.Held.{Held, held, over}
 use Rattle.finders.specs.Search.{maxFinders, found}
 use Rattle.finders.specs.Rank.{ranked}
 use Rattle.finders.specs.Answer.{tableOf, isOver, heldList, findRefusal, answerOf, heldIn}
-use Rattle.finders.specs.Inner.{mergedOf, heldOf, Sound, Fine, axis, refused, outcome}
+use Rattle.finders.specs.Inner.{axisMost, mergedOf, heldOf, Sound, Fine, axis, refused, outcome}
 use Rattle.finders.proofs.Tables.{held-in, held-of, sound-of, fine-mono, open-rest, open-fine}
 use Rattle.finders.proofs.Axes.{axis-fine, found-is}
 
@@ -36,19 +36,19 @@ start-is t e = ap (λ z. record { full = false; finders = z }) e
 none-fine : Fine (held []) 0
 none-fine = (omega arith, tt)
 
-pub start-sound : (t : Finders) → t ≡ tableOf [] → Sound (record { full = false; finders = t }) (2 ^ 25)
-start-sound t e = sound-of _ (held []) (2 ^ 25) (start-is t e) (fine-mono (held []) 0 (2 ^ 25) (omega arith) none-fine)
+pub start-sound : (t : Finders) → t ≡ tableOf [] → Sound (record { full = false; finders = t }) axisMost
+start-sound t e = sound-of _ (held []) axisMost (start-is t e) (fine-mono (held []) 0 axisMost (omega arith) none-fine)
 
 module _ (bits : List ℕ) (width height : ℕ) (p : Sides width height) where
-  rows-fine : Fine (axis bits width height false (held [])) (0 + 4097 * 2048)
+  rows-fine : Fine (axis bits width height false (held [])) (0 + axisMost)
   rows-fine = axis-fine bits width height p false (held []) 0 none-fine
 
   pub rows-is : (t : Finders) → t ≡ tableOf [] → (r : Merged) → r ≡ mergedOf (axis bits width height false (heldOf (record { full = false; finders = t })))
       → r ≡ mergedOf (axis bits width height false (held []))
   rows-is t e r g = g ∙ ap (λ z. mergedOf (axis bits width height false z)) (ap heldOf (start-is t e))
 
-  pub rows-sound : (r : Merged) → r ≡ mergedOf (axis bits width height false (held [])) → Sound r (2 ^ 25)
-  rows-sound r e = sound-of r (axis bits width height false (held [])) (2 ^ 25) e (fine-mono (axis bits width height false (held [])) (0 + 4097 * 2048) (2 ^ 25) (omega arith) rows-fine)
+  pub rows-sound : (r : Merged) → r ≡ mergedOf (axis bits width height false (held [])) → Sound r axisMost
+  rows-sound r e = sound-of r (axis bits width height false (held [])) axisMost e (fine-mono (axis bits width height false (held [])) (0 + axisMost) axisMost (omega arith) rows-fine)
 
   pub all-is : (q r : Merged) → q ≡ mergedOf (axis bits width height false (held [])) → r ≡ mergedOf (axis bits width height true (heldOf q))
       → r ≡ mergedOf (found bits width height)
@@ -57,9 +57,9 @@ module _ (bits : List ℕ) (width height : ℕ) (p : Sides width height) where
 
   pub all-table : (r : Merged) → r ≡ mergedOf (found bits width height) → r .full ≡ false → (r .finders ≡ tableOf (heldIn (r .finders))) × (r .finders .count ≤ maxFinders)
   all-table r e f =
-      let k = 0 + 4097 * 2048 + 4097 * 2048 in
+      let k = 0 + axisMost + axisMost in
       let a = axis bits width height true (axis bits width height false (held [])) in
-      let s : Sound r k = sound-of r a k (e ∙ ap mergedOf (found-is bits width height)) (axis-fine bits width height p true (axis bits width height false (held [])) (0 + 4097 * 2048) rows-fine) in
+      let s : Sound r k = sound-of r a k (e ∙ ap mergedOf (found-is bits width height)) (axis-fine bits width height p true (axis bits width height false (held [])) (0 + axisMost) rows-fine) in
       let w = open-rest r k s f in
       (w, (let n : r .finders .count ≡ length (heldIn (r .finders)) = ap (λ (z : Finders). z .count) w in omega (arith, open-fine r k s f .0)))
 

@@ -6,6 +6,7 @@ use mathlib.Core.List.{List, [], _∷_}
 use lib.Dec.{ltb}
 use lib.ListN.{length}
 use Rattle.lists.specs.Lists.{Each, range, folded, firstWhere, flatMap}
+use Rattle.lcr_core.specs.Outcome.{maxSide}
 use Rattle.binary.specs.Line.{pixel}
 use Rattle.finders.specs.Hits.{Hit, runs, hits, lineHits}
 use Rattle.finders.specs.Held.{Sighting, Held, held, over, mergeNext}
@@ -67,6 +68,13 @@ NextIs f len w (NextHit centre pitch v) =
     × (w .at < v .at) × (v .at ≤ len) × (v .c + v .d + v .e ≤ v .at)
 
 -- ---- the lines of one axis
+-- how many confirmed hits a line, and an axis, has at most
+abbrev pub lineMost : ℕ
+lineMost = maxSide + 1
+
+abbrev pub axisMost : ℕ
+axisMost = lineMost * ((maxSide + 1) / 2)
+
 -- row or column n
 abbrev pub lineAt : ℕ → ℕ → Bool → ℕ → Line
 lineAt width height true n = record { columns = true; number = n; start = n; stride = width; len = height }

@@ -6,7 +6,7 @@ ghost use Rattle.lcr_core.specs.Outcome.{maxSide};
 ghost use Rattle.binary.specs.Line.{pixel};
 ghost use Rattle.finders.specs.Held.{mergeNext};
 ghost use Rattle.finders.specs.Search.{maxFinders};
-ghost use Rattle.finders.specs.Inner.{mergedOf, heldOf, Sound, NextIs, SightedIs, scanned, lineAt, lineCount, axis};
+ghost use Rattle.finders.specs.Inner.{mergedOf, heldOf, Sound, NextIs, SightedIs, scanned, lineAt, lineCount, axis, axisMost};
 use crate::held::Merged;
 use crate::held::merge_into;
 use binary::line::run_on;
@@ -175,7 +175,7 @@ pub fn line_at(width: u16, height: u16, columns: bool, number: u16) -> Line
 // Every second row, or every second column, from 0 on.
 pub fn scan_axis(bits: &[u8], width: u16, height: u16, columns: bool, t: Merged) -> Merged
     requires { ⌜ Sides width height ⌝ }
-    requires { ⌜ Sound t (2 ^ 25) ⌝ }
+    requires { ⌜ Sound t axisMost ⌝ }
     ensures { λ r. ⌜ r ≡ mergedOf (axis (now (bits .entry)) width height columns (heldOf t)) ⌝ }
 {
     let count = line_count(width, height, columns);

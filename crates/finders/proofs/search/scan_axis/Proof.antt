@@ -6,7 +6,7 @@ use denote.Ref.{now}
 use Rattle.lists.specs.Lists.{range, folded}
 use Rattle.lists.proofs.Folds.{fold-more, fold-end}
 use Rattle.lcr_core.specs.Outcome.{maxSide}
-use Rattle.finders.specs.Inner.{mergedOf, heldOf, Sound, lineAt, lineCount, scanned, scannedAt, axis}
+use Rattle.finders.specs.Inner.{lineMost, axisMost, mergedOf, heldOf, Sound, lineAt, lineCount, scanned, scannedAt, axis}
 use Rattle.finders.proofs.Tables.{held-of, sound-of, sound-mono, fine-mono}
 use Rattle.finders.proofs.Axes.{scanned-fine, line-short, count-small}
 use borrow.Author.Needs.{needs}
@@ -15,7 +15,7 @@ use Rattle.finders.proofs.search.scan_axis.Tie as tie
 
 abbrev Inv-loop : tie.InvT-loop
 Inv-loop bits width height columns count half out₀ k₀ out k =
-    (k ≤ half) × Sound out (2 ^ 25 + 4097 * k)
+    (k ≤ half) × Sound out (axisMost + lineMost * k)
     × (folded (scannedAt bits width height columns) (heldOf out₀) (range 0 half) ≡ folded (scannedAt bits width height columns) (heldOf out) (range k half))
 
 abbrev μ-loop : tie.MeasureT-loop
@@ -71,7 +71,7 @@ loop-again c =
     let h : heldOf r ≡ g (heldOf (l .out)) (l .k) = ap heldOf e ∙ held-of (g (heldOf (l .out)) (l .k)) in (
       omega arith,
       sound-of r (g (heldOf (l .out)) (l .k)) _ e
-          (fine-mono (g (heldOf (l .out)) (l .k)) (2 ^ 25 + 4097 * l .k + 4097) _ (omega arith)
+          (fine-mono (g (heldOf (l .out)) (l .k)) (axisMost + lineMost * l .k + lineMost) _ (omega arith)
           (scanned-fine (now (a .bits)) (a .width) (a .height) (heldOf (l .out)) (lineAt (a .width) (a .height) (a .columns) (2 * l .k)) _
           (line-short (now (a .bits)) (a .width) (a .height) (s .pre .0) (a .columns) (2 * l .k)) (l .inv .1 .fine))),
       fold-more g _ (heldOf (l .out)) (heldOf r) (l .k) _ (c .before .before .loop-test .taken) (l .inv .2) h,
