@@ -93,7 +93,7 @@ copy-at b j i l =
     rw (at, place)
 
 -- pixel number n + i of the row in which n stands
-pub row-on : (w n i : ℕ) → n % w + i < w → ((n + i) / w ≡ n / w) × ((n + i) % w ≡ n % w + i)
+row-on : (w n i : ℕ) → n % w + i < w → ((n + i) / w ≡ n / w) × ((n + i) % w ≡ n % w + i)
 row-on w n i h =
     let e : n + i ≡ n / w * w + (n % w + i) = omega (arith, div-add-mod' n w) in
     (ap (λ (k : ℕ). k / w) e ∙ digits-div (n / w) h, ap (λ (k : ℕ). k % w) e ∙ digits-mod (n / w) h)

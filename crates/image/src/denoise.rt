@@ -32,7 +32,6 @@ pub fn check_denoised(len: usize, width: u32, height: u32, room: usize) -> Outco
 
 // Byte i of the picture behind `pad` light bytes; after its last byte all is light again.
 fn byte_at(bits: &[u8], pad: usize, i: usize) -> u32
-    requires { ⌜ pad ≤ 1024 ⌝ }
     ensures { λ r. ⌜ r ≡ byteOf (behind pad (now (bits .entry))) i ⌝ }
 {
     if i < pad {
@@ -46,7 +45,7 @@ fn byte_at(bits: &[u8], pad: usize, i: usize) -> u32
 
 // Bytes i and i + 1 of it.
 fn two_bytes(bits: &[u8], pad: usize, i: usize) -> u32
-    requires { ⌜ (pad ≤ 1024) × (i < 2 ^ 32) ⌝ }
+    requires { ⌜ i < 2 ^ 32 ⌝ }
     ensures { λ r. ⌜ r ≡ word (behind pad (now (bits .entry))) (i * 8) 16 ⌝ }
 {
     byte_at(bits, pad, i) * 256 + byte_at(bits, pad, i + 1)
@@ -54,7 +53,7 @@ fn two_bytes(bits: &[u8], pad: usize, i: usize) -> u32
 
 // Bytes i to i + 2 of it, of which the first two are at hand.
 fn three_bytes(bits: &[u8], pad: usize, i: usize, two: u32) -> u32
-    requires { ⌜ (pad ≤ 1024) × (i < 2 ^ 32) × (two % 65536 ≡ word (behind pad (now bits)) (i * 8) 16) ⌝ }
+    requires { ⌜ (i < 2 ^ 32) × (two % 65536 ≡ word (behind pad (now bits)) (i * 8) 16) ⌝ }
     ensures three { λ r. ⌜ r ≡ word (behind pad (now (bits .entry))) (i * 8) 24 ⌝ }
     ensures next { λ r. ⌜ r % 65536 ≡ word (behind pad (now (bits .entry))) ((i + 1) * 8) 16 ⌝ }
 {

@@ -15,7 +15,7 @@ add-three-bytes : tie.Need-add-three-bytes
 add-three-bytes c = search needs
 
 three-bytes-requires : tie.Need-three-bytes-requires
-three-bytes-requires c κs = (omega arith, omega arith, have-two _ _ _ _ _ _ (c .before .pad-of .ensures) (c .up-of .ensures) _ (c .before .before .before .pre .2 .above))
+three-bytes-requires c κs = (omega arith, have-two _ _ _ _ _ _ (c .before .pad-of .ensures) (c .up-of .ensures) _ (c .before .before .before .pre .2 .above))
 
 mid-of-requires : tie.Need-mid-of-requires
 mid-of-requires c κs = search needs
@@ -24,7 +24,7 @@ add-three-bytes-2 : tie.Need-add-three-bytes-2
 add-three-bytes-2 c = search needs
 
 three-bytes-requires-2 : tie.Need-three-bytes-requires-2
-three-bytes-requires-2 c κs = (omega arith, omega arith, have-two _ _ _ _ _ _ (c .before .before .before .pad-of .ensures) (c .mid-of .ensures) _ (c .before .before .before .before .before .pre .2 .row))
+three-bytes-requires-2 c κs = (omega arith, have-two _ _ _ _ _ _ (c .before .before .before .pad-of .ensures) (c .mid-of .ensures) _ (c .before .before .before .before .before .pre .2 .row))
 
 down-of-requires : tie.Need-down-of-requires
 down-of-requires c κs = search needs
@@ -33,7 +33,7 @@ add-three-bytes-3 : tie.Need-add-three-bytes-3
 add-three-bytes-3 c = search needs
 
 three-bytes-requires-3 : tie.Need-three-bytes-requires-3
-three-bytes-requires-3 c κs = (omega arith, omega arith, have-two _ _ _ _ _ _ (c .before .before .before .before .before .pad-of .ensures) (c .down-of .ensures) _ (c .before .before .before .before .before .before .before .pre .2 .below))
+three-bytes-requires-3 c κs = (omega arith, have-two _ _ _ _ _ _ (c .before .before .before .before .before .pad-of .ensures) (c .down-of .ensures) _ (c .before .before .before .before .before .before .before .pre .2 .below))
 
 returns : tie.Need-returns
 returns c =

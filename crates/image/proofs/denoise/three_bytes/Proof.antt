@@ -13,7 +13,7 @@ use Rattle.image.proofs.denoise.three_bytes.Tie as tie
 -- the three bytes
 three : (c : tie.After-byte-at) → let a = c .before .before .args in
     a .two % 65536 * 256 + c .byte-at .result ≡ word (behind (a .pad) (a .bits .now)) (a .i * 8) 24
-three c = rw (c .before .before .pre .2, c .byte-at .ensures) (sym (three-bytes _ _))
+three c = rw (c .before .before .pre .1, c .byte-at .ensures) (sym (three-bytes _ _))
 
 mul-result : tie.Need-mul-result
 mul-result c = search needs
