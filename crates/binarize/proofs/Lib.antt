@@ -1,5 +1,6 @@
 pub mod Tallies
 pub mod LevelLaws
 pub mod Alike
+pub mod Eights
 pub mod Dark
 pub mod Refusals

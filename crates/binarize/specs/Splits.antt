@@ -1,5 +1,5 @@
--- The loops over a window, as folds, and what is known where they run. For contracts of inner functions, and for proofs.
-use Prim.Native.Nat.{ℕ, _+_, _*_, _≤_, _<_}
+-- The loops over a window, as folds, eight pixels at once, and what is known where they run. For contracts of inner functions, and for proofs.
+use Prim.Native.Nat.{ℕ, _+_, _*_, _/_, _%_, _^_, _≤_, _<_}
 use mathlib.Core.Path.{_≡_}
 use mathlib.Core.Bool.{cond}
 use mathlib.Core.List.{List, [], _∷_}
@@ -78,6 +78,13 @@ pub record Grid (len bw bh x y : ℕ) : Type 0 where
   pub col : x < bw
   pub row : y < bh
   pub all : bh * bw ≤ len
+
+-- eight pixels b after n, of which the last n mod 8 stand in acc: the byte that is complete, and the bits that are left
+abbrev pub byteOfEight : ℕ → ℕ → ℕ → ℕ
+byteOfEight n acc b = (acc * 256 + b) / 2 ^ (n % 8) % 256
+
+abbrev pub restOfEight : ℕ → ℕ → ℕ → ℕ
+restOfEight n acc b = (acc * 256 + b) % 2 ^ (n % 8)
 
 -- what black and white conversion needs is there: what `block_values` needs, and room for the bits
 pub record Passed (len w h room : ℕ) (work : List ℕ) : Type 0 where

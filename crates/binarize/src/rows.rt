@@ -6,15 +6,16 @@ ghost use mathlib.Core.Path.{_≡_};
 ghost use mathlib.Core.Bool.{Bool};
 ghost use mathlib.Core.List.{List};
 ghost use Prim.Native.Nat.{ℕ, _+_, _*_, _/_, _^_, _≤_, _<_, min};
-ghost use lib.ListN.{length};
+ghost use lib.ListN.{length, set};
 ghost use lib.Dec.{ltb};
 ghost use Rattle.lists.specs.Lists.{filled};
 ghost use Rattle.lcr_core.specs.Passed.{Sides};
-ghost use Rattle.binary.specs.Binary.{bit, byteOf, bytesOf};
+ghost use Rattle.binary.specs.Binary.{bit, word, byteOf, bytesOf};
 ghost use Rattle.binary.specs.Writing.{Written};
 ghost use Rattle.blocks.specs.Blocks.{at, blocksIn};
 ghost use Rattle.binarize.specs.Levels.{windowLevel};
 ghost use Rattle.binarize.specs.Binarize.{darkBy};
+ghost use Rattle.binarize.specs.Splits.{restOfEight, byteOfEight};
 
 // 1 where a gray value is below the level.
 fn below(v: u8, level: u8) -> u8
@@ -46,15 +47,66 @@ fn row_levels<'a>(
     }
 }
 
-// Puts a row of w pixels, whose levels stand in levels for each 8 pixels.
-fn put_row(gray: &[u8], from: usize, w: usize, levels: &[u8], carried: u8, bits: &mut [u8]) -> u8
+// Eight pixels from number `from` on as a byte, the first highest: 1 where a gray value is below the level.
+fn eight_below(gray: &[u8], from: usize, level: u8) -> u8
+    requires { ⌜ from + 8 ≤ length (now gray) ⌝ }
+    ensures { λ r. ⌜ r ≡ word (λ k. ltb (at (now (gray .entry)) k) level) from 8 ⌝ }
+{
+    let mut acc = 0;
+    let mut i = 0;
+    while i < 8 {
+        acc = acc % 128 * 2 + below(gray[from + i], level);
+        i += 1;
+    }
+    acc
+}
+
+// Puts eight pixels, given as a byte, from number n on into a picture that is written in order, and returns the bits that are not stored yet.
+fn put_eight(bits: &mut [u8], n: usize, acc: u8, b: u8) -> u8
+    requires { ⌜ n / 8 < length (now bits) ⌝ }
+    ensures rest { λ r. ⌜ r ≡ restOfEight n acc b ⌝ }
+    ensures bytes { λ _. ⌜ now (bits .exit) ≡ set (now (bits .entry)) (n / 8) (byteOfEight n acc b) ⌝ }
+{
+    let both = acc as u32 * 256 + b as u32;
+    let s = n % 8;
+    bits[n / 8] = ((both >> s) % 256) as u8;
+    (both % (1u32 << s)) as u8
+}
+
+// Puts the pixels of a row of w pixels that fill whole blocks; the levels of the row's blocks stand in levels.
+fn put_blocks(gray: &[u8], from: usize, w: usize, levels: &[u8], carried: u8, bits: &mut [u8]) -> u8
     requires { ⌜ (from + w ≤ length (now gray)) × (w ≤ 8 * length (now levels)) × (from + w ≤ 8 * length (now bits)) ⌝ }
     ensures { λ r. ⌜ ((p : ℕ → Bool) (old : List ℕ) → length old ≡ length (now (bits .entry)) → Written p from old (now (bits .entry)) carried
+        → ((x : ℕ) → x < w → p (from + x) ≡ ltb (at (now (gray .entry)) (from + x)) (at (now (levels .entry)) (x / 8)))
+        → Written p (from + w / 8 * 8) old (now (bits .exit)) r) ⌝ }
+{
+    let mut acc = carried;
+    let mut j = 0;
+    while j < w / 8 {
+        let b = eight_below(gray, from + j * 8, levels[j]);
+        acc = put_eight(bits, from + j * 8, acc, b);
+        j += 1;
+    }
+    acc
+}
+
+// Puts the pixels of a row of w pixels from column a on, one by one.
+fn put_pixels(
+    gray: &[u8],
+    from: usize,
+    a: usize,
+    w: usize,
+    levels: &[u8],
+    carried: u8,
+    bits: &mut [u8],
+) -> u8
+    requires { ⌜ (a ≤ w) × (from + w ≤ length (now gray)) × (w ≤ 8 * length (now levels)) × (from + w ≤ 8 * length (now bits)) ⌝ }
+    ensures { λ r. ⌜ ((p : ℕ → Bool) (old : List ℕ) → length old ≡ length (now (bits .entry)) → Written p (from + a) old (now (bits .entry)) carried
         → ((x : ℕ) → x < w → p (from + x) ≡ ltb (at (now (gray .entry)) (from + x)) (at (now (levels .entry)) (x / 8)))
         → Written p (from + w) old (now (bits .exit)) r) ⌝ }
 {
     let mut acc = carried;
-    let mut x = 0;
+    let mut x = a;
     while x < w {
         acc = put_bit(bits, from + x, acc, below(gray[from + x], levels[x / 8]));
         x += 1;
@@ -95,7 +147,8 @@ fn put_rows(
     let mut acc = carried;
     let mut i = y;
     while i < z {
-        acc = put_row(gray, i * w, w, levels, acc, bits);
+        let rest = put_blocks(gray, i * w, w, levels, acc, bits);
+        acc = put_pixels(gray, i * w, w / 8 * 8, w, levels, rest, bits);
         i += 1;
     }
     acc

@@ -2,7 +2,7 @@
 use mathlib.Core.Path.{sym, _∙_}
 use native.Mathlib.Omega.{arith}
 use Rattle.lcr_core.proofs.Checks.{unless-done}
-use Rattle.binary.proofs.Bits.{bytes-same}
+use Rattle.binary.proofs.Words.{bytes-same}
 use Rattle.blocks.proofs.Marking.{at-filled}
 use Rattle.blocks.proofs.Refusals as blocks
 use Rattle.binarize.proofs.Alike.{dark-same}

@@ -29,11 +29,20 @@ here c = let a = c .before .before .before .before .before .args in (row-within 
 loop-holds : tie.Need-loop-holds Inv-loop μ-loop
 loop-holds c = (omega arith, omega arith, omega arith, λ p old l w agree. w)
 
-mul-put-row : tie.Need-mul-put-row Inv-loop μ-loop
-mul-put-row c = let h = here c in omega arith
+mul-put-blocks : tie.Need-mul-put-blocks Inv-loop μ-loop
+mul-put-blocks c = let h = here c in omega arith
 
-put-row-requires : tie.Need-put-row-requires Inv-loop μ-loop
-put-row-requires c κs = let h = here (c .before) in omega arith
+put-blocks-requires : tie.Need-put-blocks-requires Inv-loop μ-loop
+put-blocks-requires c κs = let h = here (c .before) in omega arith
+
+mul-put-pixels : tie.Need-mul-put-pixels Inv-loop μ-loop
+mul-put-pixels c = let h = here (c .before .before .before .before) in omega arith
+
+mul-put-pixels-2 : tie.Need-mul-put-pixels-2 Inv-loop μ-loop
+mul-put-pixels-2 c = omega arith
+
+put-pixels-requires : tie.Need-put-pixels-requires Inv-loop μ-loop
+put-pixels-requires c κs = let h = here (c .before .before .before .before .before) in omega arith
 
 add-i : tie.Need-add-i Inv-loop μ-loop
 add-i c = omega arith
@@ -43,15 +52,18 @@ loop-less c = omega arith
 
 loop-again : tie.Need-loop-again Inv-loop μ-loop
 loop-again c =
-    let put = c .before .before .put-row in
-    let l = c .before .before .before .before .before .loop in
-    let a = c .before .before .before .before .before .before .before .before .before .args in (
+    let l = c .before .before .before .before .before .before .before .before .before .loop in
+    let a = c .before .before .before .before .before .before .before .before .before .before .before .before .before .args in (
       omega arith,
       omega arith,
       omega arith,
       λ p old long w agree.
+          let here : (x : ℕ) → x < a .w → p (l .i * a .w + x) ≡ ltb (at (a .gray .now) (l .i * a .w + x)) (at (a .levels .now) (x / 8)) =
+          λ x h. agree (l .i) x (omega arith) (omega arith) h
+          in
           rw (next-row (l .i) (a .w))
-          (put .ensures p old (omega arith) (l .inv .3 p old long w (λ k x lo h m. agree k x lo (omega arith) m)) (λ x h. agree (l .i) x (omega arith) (omega arith) h)),
+          (c .before .before .put-pixels .ensures p old (omega arith)
+          (c .before .before .before .before .before .before .put-blocks .ensures p old (omega arith) (l .inv .3 p old long w (λ k x lo h m. agree k x lo (omega arith) m)) here) here),
     )
 
 same-length : tie.Need-same-length Inv-loop μ-loop
@@ -70,8 +82,11 @@ put-rows-spec =
     Inv-loop
     μ-loop
     loop-holds
-    mul-put-row
-    put-row-requires
+    mul-put-blocks
+    put-blocks-requires
+    mul-put-pixels
+    mul-put-pixels-2
+    put-pixels-requires
     add-i
     loop-less
     loop-again

@@ -1,30 +1,30 @@
--- `binarize::rows::put_row` meets its contract: the first x pixels of the row are written. Assumes nothing.
+-- `binarize::rows::put_pixels` meets its contract: the pixels before x are written. Assumes nothing.
 use Prim.Native.Nat.{ℕ, _+_, _-_, _/_, _≤_, _<_}
 use mathlib.Core.Path.{_≡_, sym, ap, _∙_}
 use mathlib.Core.Bool.{Bool}
 use mathlib.Core.List.{List}
 use native.Mathlib.Omega.{arith}
-use native.Mathlib.Nat.{add-zero, add-assoc}
+use native.Mathlib.Nat.{add-assoc}
 use lib.ListN.{length}
 use Rattle.blocks.specs.Blocks.{at}
 use lib.Dec.{ltb}
 use Rattle.binary.specs.Binary.{bit}
 use Rattle.binary.specs.Writing.{Written}
 use Rattle.binary.proofs.Bits.{written-step}
-use Rattle.binarize.proofs.rows.put_row.Statement.{statement}
-use Rattle.binarize.proofs.rows.put_row.Tie as tie
+use Rattle.binarize.proofs.rows.put_pixels.Statement.{statement}
+use Rattle.binarize.proofs.rows.put_pixels.Tie as tie
 
 abbrev Inv-loop : tie.InvT-loop
-Inv-loop gray from w levels carried bits₀ acc₀ x₀ bits acc x =
-    (x ≤ w) × (length bits ≡ length bits₀)
-    × ((p : ℕ → Bool) (old : List ℕ) → length old ≡ length bits₀ → Written p from old bits₀ carried
+Inv-loop gray from a w levels carried bits₀ acc₀ x₀ bits acc x =
+    (a ≤ x) × (x ≤ w) × (length bits ≡ length bits₀)
+    × ((p : ℕ → Bool) (old : List ℕ) → length old ≡ length bits₀ → Written p (from + a) old bits₀ carried
     → ((k : ℕ) → k < x → p (from + k) ≡ ltb (at gray (from + k)) (at levels (k / 8))) → Written p (from + x) old bits acc)
 
 abbrev μ-loop : tie.MeasureT-loop
-μ-loop gray from w levels carried bits₀ acc₀ x₀ bits acc x = w - x
+μ-loop gray from a w levels carried bits₀ acc₀ x₀ bits acc x = w - x
 
 loop-holds : tie.Need-loop-holds Inv-loop μ-loop
-loop-holds c = (omega arith, omega arith, λ p old l w agree. rw add-zero w)
+loop-holds c = (omega arith, omega arith, omega arith, λ p old l w agree. w)
 
 add-put-bit : tie.Need-add-put-bit Inv-loop μ-loop
 add-put-bit c = omega arith
@@ -58,24 +58,25 @@ loop-again c =
     let a = c .before .before .before .before .before .before .before .before .before .before .before .before .args in (
       omega arith,
       omega arith,
+      omega arith,
       λ p old long w agree.
           rw (← add-assoc)
           (written-step p (a .from + l .x) old (l .bits) _ (l .acc) _ _ (omega arith) (put .ensures .0) (put .ensures .1)
           (b .ensures ∙ ap bit (sym (agree (l .x) (omega arith))))
-          (l .inv .2 p old long w (λ k h. agree k (omega arith)))),
+          (l .inv .3 p old long w (λ k h. agree k (omega arith)))),
     )
 
 same-length : tie.Need-same-length Inv-loop μ-loop
-same-length c = c .before .loop .inv .1
+same-length c = c .before .loop .inv .2
 
 returns : tie.Need-returns Inv-loop μ-loop
 returns c =
     let l = c .before .loop in
     let e : l .x ≡ c .before .before .before .before .before .args .w = omega arith in
-    λ p old long w agree. rw e at (l .inv .2 p old long w (λ k h. agree k (omega arith)))
+    λ p old long w agree. rw e at (l .inv .3 p old long w (λ k h. agree k (omega arith)))
 
-pub put-row-spec : {M : Type 1} → statement M
-put-row-spec =
+pub put-pixels-spec : {M : Type 1} → statement M
+put-pixels-spec =
     tie.close
     (tie.spec
     Inv-loop
