@@ -1,1 +1,2 @@
 pub mod Chained
+pub mod Theorems
