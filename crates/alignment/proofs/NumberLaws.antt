@@ -1,10 +1,10 @@
 -- Sums and squares that are numbers, no NaN. Assumes nothing.
 use mathlib.Core.Path.{_≡_, refl, sym, subst}
-use mathlib.Core.Bool.{Bool, true, false, not, _&&_, _||_, cond, Bool·beq, true≢false}
+use mathlib.Core.Bool.{Bool, true, false, _&&_, cond, Bool·beq, true≢false}
 use Prim.Native.Nat.{ℕ, zero, suc, _+_, _-_, _*_, _^_}
-use lib.Dec.{ltb, eqb}
+use lib.Dec.{ltb}
 use lib.IntN.{ℤ, pos}
-use lib.Ieee.{Float, nan, inf, fin, Format, binary32, prec, low, emax, up, down, odd, units, round, unlike, sum, add, mul, eq, ne}
+use lib.Ieee.{Float, nan, inf, fin, Format, binary32, prec, low, emax, up, down, odd, units, round, sum, add, mul, eq, ne}
 use lib.Ieee.Fits.{round-is}
 use borrow.Author.Tests.{eq-eqb}
 use Rattle.float.specs.Floats.{isNumber}

@@ -1,10 +1,10 @@
 -- `beats` is a strict order of the sites, and off NaN a site that does not beat another is beaten by what beats that other. Assumes nothing.
-use mathlib.Core.Path.{_≡_, refl, sym, ap, _∙_}
+use mathlib.Core.Path.{_≡_, refl, sym, _∙_}
 use mathlib.Core.Bool.{Bool, true, false, _&&_, _||_, true≢false}
 use Prim.Native.Nat.{ℕ, _<_, _≤_}
 use native.Mathlib.Omega.{arith}
 use lib.Dec.{ltb, eqb}
-use lib.Ieee.{Float, lt}
+use lib.Ieee.{lt}
 use borrow.Author.Tests.{ltb-true, ltb-false, eqb-true, eqb-false, lt-ltb, le-ltb, eq-eqb}
 use Rattle.float.specs.Floats.{isNumber}
 use Rattle.float.proofs.Order.{lt-irrefl, lt-trans, not-lt-trans}

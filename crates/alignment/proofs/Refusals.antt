@@ -6,7 +6,6 @@ use native.Mathlib.Omega.{arith}
 use Rattle.lcr_core.specs.Outcome.{zeroSide, largeSide}
 use Rattle.lcr_core.specs.Passed.{Sides}
 use Rattle.lcr_core.specs.Version.{valid, newOf}
-use Rattle.lcr_core.specs.declared.version.Checked.{Checked}
 use Rattle.lcr_core.specs.declared.version.Checked.the-variants.{Is, Refused}
 use Rattle.lcr_core.specs.declared.version.Version.{Version}
 use Rattle.lcr_core.proofs.Checks.{first-passes, sides-pass}

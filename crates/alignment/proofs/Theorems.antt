@@ -1,12 +1,12 @@
 -- What the definitions say, in document 01's words. Assumes nothing.
 use mathlib.Core.Path.{_≡_, refl}
-use mathlib.Core.Bool.{true, false}
+use mathlib.Core.Bool.{true}
 use mathlib.Core.List.{List, _∷_}
 use Prim.Native.Nat.{ℕ, _+_}
 use native.Mathlib.Omega.{arith}
 use lib.Count.{trailingZeros}
 use lib.ListN.{length}
-use lib.Ieee.{Float, nan, inf, ofBits, ofFields, ofInt, mul, round, units, odd, size, span, climb, lt, eq, ne, toUnsigned}
+use lib.Ieee.{Float, nan, ofBits, ofFields, ofInt, mul, round, units, odd, size, span, climb, lt, eq, ne, toUnsigned}
 use Rattle.float.specs.Floats.{isNumber}
 use Rattle.float.specs.Constants.{half, f1/8, f1/32}
 use Rattle.float.proofs.Order.{le-nan}
@@ -14,12 +14,10 @@ use Rattle.binary.specs.Binary.{bit, darkAt}
 use Rattle.transform.specs.declared.Transform.{Transform}
 use Rattle.geometry.specs.Order.{point}
 use Rattle.geometry.specs.declared.Corners.{Corners}
-use Rattle.geometry.specs.declared.Marker.{Marker}
 use Rattle.geometry.specs.declared.Marker.the-variants.{Missing}
 use Rattle.alignment.specs.Alignment.{alignmentRefusal, locatedOf, rebuiltOf, refineOf}
 use Rattle.alignment.specs.Template.{outsideOf, pixelAt, tapped, less, noSite, sweepBest, bestOf, matchedOf}
 use Rattle.alignment.specs.declared.template.Votes.{Votes}
-use Rattle.alignment.specs.declared.Refined.{Refined}
 use Rattle.alignment.proofs.First.{FirstBest}
 use Rattle.alignment.proofs.Sweeps.{below, steps, Placed, sites, sweep-first, sweep-placed}
 

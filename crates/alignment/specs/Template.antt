@@ -1,7 +1,7 @@
 -- The template match. Document 01: "Sweeps of 13 × 13, 9 × 9 and 9 × 9 sites with steps 1/2, 1/8, 1/32 modules, the later two about the best so far; 23 of 25 modules needed; equal
 -- scores go to the smaller squared offset, then the earlier site", and a not-a-number coordinate "reads as coordinate 0". Positions are f32, in modules, in the steps of 000. Definitions only.
 use Prim.Native.Nat.{ℕ, _+_, _*_, _/_, _%_, max}
-use mathlib.Core.Bool.{Bool, true, false, not, _&&_, _||_, cond, Bool·beq}
+use mathlib.Core.Bool.{Bool, false, not, _&&_, _||_, cond, Bool·beq}
 use mathlib.Core.List.{List, [], _∷_}
 use lib.Dec.{eqb, ltb}
 use lib.Ieee as Ieee

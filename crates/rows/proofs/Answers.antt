@@ -1,6 +1,6 @@
 -- What a call answers where it is refused, and where it is not. Assumes nothing.
-use mathlib.Core.Path.{_≡_, refl, ap}
-use Prim.Native.Nat.{ℕ, zero, suc}
+use mathlib.Core.Path.{_≡_, ap}
+use Prim.Native.Nat.{ℕ}
 use Rattle.lcr_core.proofs.Checks.{unless-refused}
 use Rattle.rows.specs.Rows.{answer}
 use Rattle.geometry.specs.declared.Marker.{Marker}

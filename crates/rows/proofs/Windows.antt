@@ -1,9 +1,9 @@
 -- A float as an i32, by its magnitude. Assumes nothing.
-use mathlib.Core.Path.{_≡_, refl, sym, ap, _∙_}
-use mathlib.Core.Bool.{Bool, true, false, cond}
-use Prim.Native.Nat.{ℕ, zero, suc, _*_, _/_, _-_, _^_, min}
+use mathlib.Core.Path.{_≡_, refl, _∙_}
+use mathlib.Core.Bool.{true, false}
+use Prim.Native.Nat.{ℕ, zero, suc, _*_, _/_, _^_, min}
 use native.Mathlib.Omega.{arith}
-use lib.IntN.{ℤ, pos, negsuc, negℤ}
+use lib.IntN.{pos, negℤ}
 use lib.Ieee.{Float, nan, inf, fin, up, down, neg, toUnsigned, toSigned}
 use Rattle.rows.specs.Rows.{posPart, negPart}
 

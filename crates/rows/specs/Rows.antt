@@ -1,6 +1,6 @@
 -- The search for the alignment marker along rows. Document 01: "`find_alignment` searches the rows as 000 does", refusals "1, 2, 4", and its known difference: "sums are taken
 -- without overflow, and rows clipped to the picture; a negative px + radius still searches to width − 1". All steps are f32, in the order of 000. Definitions only.
-use Prim.Native.Nat.{ℕ, suc, _+_, _-_, _*_, min}
+use Prim.Native.Nat.{ℕ, suc, _+_, _-_, min}
 use mathlib.Core.Bool.{Bool, true, false, not, _&&_, cond}
 use mathlib.Core.List.{List}
 use lib.Dec.{ltb}
