@@ -8,11 +8,12 @@ use native.Mathlib.Nat.{le-refl, le-trans, le-of-lt}
 use native.Mathlib.Omega.{arith}
 use lib.Dec.{leb, ltb, eqb}
 use lib.ListN.{length}
-use borrow.Author.Tests.{lt-leb, leb-false, ltb-true, ltb-false, eqb-true, ne-eqb}
+use borrow.Author.Tests.{lt-leb, leb-true, leb-false, ltb-true, ltb-false, eqb-true, ne-eqb}
 use Rattle.lists.specs.Lists.{Each, folded, those}
 use Rattle.lists.proofs.Filters.{each-map, those-none, those-append}
 use Rattle.geometry.specs.declared.Finder.{Finder}
-use Rattle.finders.specs.Held.{Sighting, held, over, within, join, place, merge}
+use Rattle.finders.specs.Held.{Sighting, held, over, within, join, place, merge, mergeNext}
+use Rattle.finders.specs.Search.{maxFinders, sightings, found}
 use Rattle.finders.specs.Rank.{stays, insert, ranked}
 
 -- ---- 6: a hit is one too many if and only if it falls within no held finder while the table is full, for a table of any number of places
@@ -48,6 +49,49 @@ longer (f ∷ fs) s n = rw (n .0) (omega (arith, longer fs s (n .1)))
 full-if : (limit : ℕ) (fs : List Finder) (s : Sighting) → length fs ≡ limit → None s fs → merge limit fs s ≡ over
 unfolding merge
 full-if limit fs s few n = rw (lt-leb (length (place fs s)) limit (omega (arith, longer fs s n)))
+
+-- somewhere among the hits ss, one falls within no held finder while the table is full; fs are the finders held before them
+abbrev Overflows : ℕ → List Finder → List Sighting → Type 0
+Overflows limit fs [] = ⊥
+Overflows limit fs (s ∷ ss) = ((length fs ≡ limit) × None s fs) ⊎ Overflows limit (place fs s) ss
+
+over-stays : (limit : ℕ) (ss : List Sighting) → folded (mergeNext limit) over ss ≡ over
+unfolding folded
+over-stays limit [] = refl
+over-stays limit (s ∷ ss) = over-stays limit ss
+
+merge-by : (limit : ℕ) (fs : List Finder) (s : Sighting) (t : Bool) → leb (length (place fs s)) limit ≡ t → merge limit fs s ≡ cond t (held (place fs s)) over
+unfolding merge
+merge-by limit fs s t e = rw e
+
+over-only-if : (limit : ℕ) (fs : List Finder) (ss : List Sighting) → length fs ≤ limit → folded (mergeNext limit) (held fs) ss ≡ over → Overflows limit fs ss
+unfolding folded
+over-only-if limit fs [] few h = let z : _≡_ {A = ℕ} 0 1 = cc in absurd (omega arith)
+over-only-if limit fs (s ∷ ss) few h = go (leb (length (place fs s)) limit) refl (over-only-if limit (place fs s) ss)
+  where
+    go : (t : Bool) → leb (length (place fs s)) limit ≡ t
+        → (length (place fs s) ≤ limit → folded (mergeNext limit) (held (place fs s)) ss ≡ over → Overflows limit (place fs s) ss) → Overflows limit fs (s ∷ ss)
+    go true e next = inr (next (leb-true (length (place fs s)) limit e) (rw (merge-by limit fs s true e) at h))
+    go false e next = inl (full-only-if limit fs s few (merge-by limit fs s false e))
+
+over-if : (limit : ℕ) (fs : List Finder) (ss : List Sighting) → length fs ≤ limit → Overflows limit fs ss → folded (mergeNext limit) (held fs) ss ≡ over
+unfolding folded
+over-if limit fs (s ∷ ss) few (inl r) = rw (full-if limit fs s (r .0) (r .1)) (over-stays limit ss)
+over-if limit fs (s ∷ ss) few (inr r) = go (leb (length (place fs s)) limit) refl (λ k. over-if limit (place fs s) ss k r)
+  where
+    go : (t : Bool) → leb (length (place fs s)) limit ≡ t → (length (place fs s) ≤ limit → folded (mergeNext limit) (held (place fs s)) ss ≡ over)
+        → folded (mergeNext limit) (merge limit fs s) ss ≡ over
+    go true e next = rw (merge-by limit fs s true e) (next (leb-true (length (place fs s)) limit e))
+    go false e next = rw (merge-by limit fs s false e) (over-stays limit ss)
+
+-- of a picture: 6 where, and only where, a confirmed hit falls within no held finder while 128 are held
+pub six-only-if : (bits : List ℕ) (w h : ℕ) → found bits w h ≡ over → Overflows maxFinders [] (sightings bits w h)
+unfolding found
+six-only-if bits w h e = over-only-if maxFinders [] (sightings bits w h) (omega arith) e
+
+pub six-if : (bits : List ℕ) (w h : ℕ) → Overflows maxFinders [] (sightings bits w h) → found bits w h ≡ over
+unfolding found
+six-if bits w h o = over-if maxFinders [] (sightings bits w h) (omega arith) o
 
 -- ---- most first
 abbrev Below : ℕ → List Finder → Type 0
