@@ -3,13 +3,12 @@ use mathlib.Core.Path.{_≡_, refl, sym, ap, _∙_}
 use mathlib.Core.List.{List, [], _∷_, _++_}
 use Prim.Native.Nat.{ℕ, suc, _+_, _*_, _≤_, _<_}
 use native.Mathlib.Omega.{arith}
-use lib.ListN.{length, take, getD, set, length-append}
-use lib.Seq.{length-take-le}
+use lib.ListN.{length, set, length-append}
 use lib.Ieee.{binary32, toBits}
 use Rattle.lists.specs.Lists.{flatMap}
-use Rattle.lists.proofs.Folds.{flatMap-take}
 use Rattle.little_endian.specs.Bytes.{bytesLE, put}
 use Rattle.little_endian.proofs.Halves.{put-append}
+use Rattle.little_endian.proofs.Pieces.{put-then, length-flat}
 use Rattle.little_endian.proofs.Round.{length-bytes, put-front}
 use Rattle.geometry.specs.declared.Finder.{Finder}
 use Rattle.stored.specs.Stored.{headBytes, placeBytes, sizeBytes, sizeOf, storedBytes, over}
@@ -28,26 +27,9 @@ pub length-head : (w h n : ℕ) → length (headBytes w h n) ≡ 6
 length-head w h n =
     ap suc (length-append (bytesLE 2 w) (bytesLE 2 h ++ (n ∷ [])) ∙ rw (length-bytes 2 w, length-append (bytesLE 2 h) (n ∷ []), length-bytes 2 h))
 
-module _ (g : Finder → List ℕ) (eight : (f : Finder) → length (g f) ≡ 8) where
-  pub length-flat : (fs : List Finder) → length (flatMap g fs) ≡ 8 * length fs
-  unfolding flatMap
-  length-flat [] = refl
-  length-flat (f ∷ fs) = omega (arith, length-append (g f) (flatMap g fs), eight f, length-flat fs)
-
-  -- one pair more
-  pub pairs-more : (xs : List Finder) (base k : ℕ) (d : Finder) (l out : List ℕ) → k < length xs → out ≡ put (flatMap g (take k xs)) base l
-      → put (g (getD xs k d)) (base + 8 * k) out ≡ put (flatMap g (take (k + 1) xs)) base l
-  pairs-more xs base k d l out h e =
-      let m : k ≤ length xs = omega arith in
-      let n : length (flatMap g (take k xs)) ≡ 8 * k = length-flat (take k xs) ∙ ap (λ z. 8 * z) (length-take-le k xs m) in
-      ap (put (g (getD xs k d)) (base + 8 * k)) e
-      ∙ ap (λ z. put (g (getD xs k d)) (base + z) (put (flatMap g (take k xs)) base l)) (sym n)
-      ∙ sym (put-append (flatMap g (take k xs)) (g (getD xs k d)) base l)
-      ∙ ap (λ z. put z base l) (sym (flatMap-take g xs k d h))
-
 -- ---- the parts
 pub pair-is : (a b i : ℕ) (l : List ℕ) → put (bytesLE 4 b) (i + 4) (put (bytesLE 4 a) i l) ≡ put (bytesLE 4 a ++ bytesLE 4 b) i l
-pair-is a b i l = ap (λ z. put (bytesLE 4 b) (i + z) (put (bytesLE 4 a) i l)) (sym (length-bytes 4 a)) ∙ sym (put-append (bytesLE 4 a) (bytesLE 4 b) i l)
+pair-is a b i l = put-then 4 (bytesLE 4 a) (bytesLE 4 b) i (i + 4) l (length-bytes 4 a) refl
 
 pub head-is : (w h n : ℕ) (l : List ℕ) → set (put (bytesLE 2 h) 3 (put (bytesLE 2 w) 1 (set l 0 1))) 5 n ≡ put (headBytes w h n) 0 l
 unfolding put
@@ -64,7 +46,7 @@ head-is w h n l =
 pub length-stored : (w h : ℕ) (fs : List Finder) → length (storedBytes w h fs) ≡ sizeOf (length fs)
 unfolding storedBytes
 length-stored w h fs =
-    omega (arith, length-append (headBytes w h (length fs)) (flatMap placeBytes fs ++ flatMap sizeBytes fs), length-append (flatMap placeBytes fs) (flatMap sizeBytes fs), length-head w h (length fs), length-flat placeBytes length-place fs, length-flat sizeBytes length-size fs)
+    omega (arith, length-append (headBytes w h (length fs)) (flatMap placeBytes fs ++ flatMap sizeBytes fs), length-append (flatMap placeBytes fs) (flatMap sizeBytes fs), length-head w h (length fs), length-flat placeBytes 8 length-place fs, length-flat sizeBytes 8 length-size fs)
 
 -- ---- the whole list
 pub stored-is : (w h : ℕ) (fs : List Finder) (n : ℕ) (l : List ℕ) → n ≡ length fs → sizeOf n ≤ length l
@@ -74,12 +56,8 @@ stored-is w h fs n l e fit =
     let P = flatMap placeBytes fs in
     let S = flatMap sizeBytes fs in
     let D = headBytes w h (length fs) in
-    let p : 6 + 8 * n ≡ 6 + length P = omega (arith, length-flat placeBytes length-place fs) in
-    let d : 6 ≡ 0 + length D = omega (arith, length-head w h (length fs)) in
-    let s : length (D ++ (P ++ S)) ≤ length l = omega (arith, length-stored w h fs) in
-    ap (λ z. put S z (put P 6 (put (headBytes w h n) 0 l))) p
-    ∙ ap (λ z. put S (6 + length P) (put P 6 (put (headBytes w h z) 0 l))) e
-    ∙ sym (put-append P S 6 (put D 0 l))
-    ∙ ap (λ z. put (P ++ S) z (put D 0 l)) d
-    ∙ sym (put-append D (P ++ S) 0 l)
-    ∙ put-front (D ++ (P ++ S)) l s
+    let d : length (D ++ (P ++ S)) ≤ length l = omega (arith, length-stored w h fs) in
+    ap (λ z. put S (6 + 8 * n) (put P 6 (put (headBytes w h z) 0 l))) e
+    ∙ put-then (8 * n) P S 6 (6 + 8 * n) (put D 0 l) (length-flat placeBytes 8 length-place fs ∙ ap (λ z. 8 * z) (sym e)) refl
+    ∙ put-then 6 D (P ++ S) 0 6 l (length-head w h (length fs)) refl
+    ∙ put-front (D ++ (P ++ S)) l d

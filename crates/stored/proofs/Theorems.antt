@@ -18,13 +18,14 @@ use Rattle.lists.proofs.Tabulate.{length-tabulate, getD-tabulate}
 use Rattle.lcr_core.specs.Outcome.{zeroSide, largeSide}
 use Rattle.lcr_core.specs.Passed.{Sides}
 use Rattle.little_endian.specs.Bytes.{bytesLE, readLE}
+use Rattle.little_endian.proofs.Pieces.{length-flat}
 use Rattle.little_endian.proofs.Round.{length-bytes, read-after, read-bytes}
 use Rattle.geometry.specs.declared.Finder.{Finder}
 use Rattle.geometry.specs.Order.{zeroFinder}
 use Rattle.finders.specs.Search.{maxFinders}
 use Rattle.finders.specs.Answer.{tableOf}
 use Rattle.stored.specs.Stored.{headBytes, placeBytes, sizeBytes, sizeOf, storedBytes, over, widthIn, heightIn, countIn, finderAt, badHead, manyFinders, badLength, readRefusal, readOf}
-use Rattle.stored.proofs.Bytes.{length-place, length-size, length-head, length-flat, length-stored}
+use Rattle.stored.proofs.Bytes.{length-place, length-size, length-head, length-stored}
 
 -- a finder as the code has it: three f32 and a u32
 pub record Storable (f : Finder) : Type 0 where
@@ -83,11 +84,11 @@ module _ (w h : ℕ) (fs : List Finder) (k : ℕ) (d : Finder) (l : k < length f
   taken = length-take-le k fs (let m : k ≤ length fs = omega arith in m)
 
   places-from : length (D ++ flatMap placeBytes (take k fs)) ≡ 6 + 8 * k
-  places-from = omega (arith, length-append D (flatMap placeBytes (take k fs)), length-head w h (length fs), length-flat placeBytes length-place (take k fs), taken)
+  places-from = omega (arith, length-append D (flatMap placeBytes (take k fs)), length-head w h (length fs), length-flat placeBytes 8 length-place (take k fs), taken)
 
   sizes-from : length ((D ++ P) ++ flatMap sizeBytes (take k fs)) ≡ 6 + 8 * length fs + 8 * k
   sizes-from =
-      omega (arith, length-append (D ++ P) (flatMap sizeBytes (take k fs)), length-append D P, length-head w h (length fs), length-flat placeBytes length-place fs, length-flat sizeBytes length-size (take k fs), taken)
+      omega (arith, length-append (D ++ P) (flatMap sizeBytes (take k fs)), length-append D P, length-head w h (length fs), length-flat placeBytes 8 length-place fs, length-flat sizeBytes 8 length-size (take k fs), taken)
 
   finder-is : Storable (getD fs k d) → finderAt (storedBytes w h fs) (length fs) k ≡ getD fs k d
   unfolding finderAt

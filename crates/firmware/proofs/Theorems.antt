@@ -1,0 +1,44 @@
+-- The bytes of at most three detections are 367, and those of missing ones are zero. Assumes nothing.
+use mathlib.Core.Path.{_≡_, refl, sym, ap, _∙_}
+use mathlib.Core.List.{List, [], _∷_, _++_}
+use Prim.Native.Nat.{ℕ, zero, suc, _+_, _-_, _*_, _%_, _≤_}
+use native.Mathlib.Omega.{arith}
+use lib.ListN.{length, replicate, length-append}
+use lib.Ieee.{toBits, ofBits}
+use Rattle.lists.specs.Lists.{padded, tabulate, flatMap}
+use Rattle.lists.proofs.Folds.{flatMap-append}
+use Rattle.lists.proofs.Padded.{length-padded}
+use Rattle.little_endian.specs.Bytes.{bytesLE}
+use Rattle.little_endian.proofs.Pieces.{length-flat}
+use Rattle.candidates.specs.declared.Detection.{Detection}
+use Rattle.candidates.specs.declared.Detections.{Detections}
+use Rattle.candidates.specs.Detection.{zeroDetection}
+use Rattle.candidates.specs.Candidates.{tableOf}
+use Rattle.firmware.specs.Firmware.{finderBytes, detectionBytes, detectionSize, firmwareBytes, firmwareSize}
+use Rattle.firmware.proofs.Bytes.{length-detection}
+
+pub zero-bytes : detectionBytes zeroDetection ≡ replicate detectionSize 0
+unfolding detectionBytes finderBytes bytesLE tabulate flatMap toBits ofBits
+zero-bytes = refl
+
+-- a table of three has 367 bytes
+pub length-firmware : (t : Detections) → length (t .at) ≡ 3 → length (firmwareBytes t) ≡ firmwareSize
+unfolding firmwareBytes bytesLE
+length-firmware t e = ap suc (length-flat detectionBytes detectionSize length-detection (t .at) ∙ ap (λ z. detectionSize * z) e)
+
+replicate-more : {A : Type 0} (z : A) (a b : ℕ) → replicate a z ++ replicate b z ≡ replicate (a + b) z
+replicate-more z zero b = ap (λ n. replicate n z) (let e : b ≡ 0 + b = omega arith in e)
+replicate-more z (suc a) b = ap (λ l. z ∷ l) (replicate-more z a b) ∙ ap (λ n. replicate n z) (let e : suc (a + b) ≡ suc a + b = omega arith in e)
+
+none-zero : (k : ℕ) → flatMap detectionBytes (replicate k zeroDetection) ≡ replicate (detectionSize * k) 0
+unfolding flatMap
+none-zero zero = refl
+none-zero (suc k) = rw (zero-bytes, none-zero k) (replicate-more 0 detectionSize (detectionSize * k) ∙ ap (λ n. replicate n 0) (let e : detectionSize + detectionSize * k ≡ detectionSize * suc k = omega arith in e))
+
+-- the count, the bytes of each detection, and then zeros
+pub missing-zero : (ds : List Detection) → length ds ≤ 3 → firmwareBytes (tableOf ds) ≡ padded firmwareSize 0 (length ds ∷ flatMap detectionBytes ds)
+unfolding firmwareBytes bytesLE
+missing-zero ds h =
+    let n : length ds % 256 ≡ length ds = omega arith in
+    let k : detectionSize * (3 - length ds) ≡ firmwareSize - suc (length (flatMap detectionBytes ds)) = omega (arith, length-flat detectionBytes detectionSize length-detection ds) in
+    rw n (ap (λ l. length ds ∷ l) (flatMap-append detectionBytes ds (replicate (3 - length ds) zeroDetection) ∙ ap (λ l. flatMap detectionBytes ds ++ l) (none-zero (3 - length ds) ∙ ap (λ n. replicate n 0) k)))
