@@ -7,7 +7,7 @@ use lib.Dec.{ltb, eqb}
 use lib.Ieee.{lt}
 use borrow.Author.Tests.{ltb-true, ltb-false, eqb-true, eqb-false, lt-ltb, le-ltb, eq-eqb}
 use Rattle.float.specs.Floats.{isNumber}
-use Rattle.float.proofs.Order.{lt-irrefl, lt-trans, not-lt-trans}
+use Rattle.float.proofs.Order.{lt-trans, not-lt-trans}
 use Rattle.alignment.specs.declared.template.Site.{Site}
 use Rattle.alignment.specs.Template.{beats}
 
@@ -33,10 +33,6 @@ beats-above s t u (more h) (more g) = more (omega arith)
 beats-above s t u (more h) (level g e) = more (omega arith)
 beats-above s t u (level h e) (more g) = more (omega arith)
 beats-above s t u (level h e) (level g f) = level (g ∙ h) (lt-trans (s .dist) (t .dist) (u .dist) e f)
-
-pub beats-irrefl : (s : Site) → beats s s ≡ false
-unfolding beats
-beats-irrefl s = rw (le-ltb (s .score) (s .score) (omega arith), eq-eqb (s .score) (s .score) refl, lt-irrefl (s .dist))
 
 pub beats-trans : (s t u : Site) → beats s t ≡ true → beats t u ≡ true → beats s u ≡ true
 unfolding beats

@@ -1,13 +1,11 @@
 -- The checks of the picture and of the version, one after the other. Assumes nothing.
 use mathlib.Core.Path.{_≡_, refl, sym, _∙_}
-use mathlib.Core.Bool.{Bool, true, false, not, cond}
+use mathlib.Core.Bool.{Bool, true, false, cond}
 use Prim.Native.Nat.{ℕ}
 use native.Mathlib.Omega.{arith}
 use Rattle.lcr_core.specs.Outcome.{zeroSide, largeSide}
 use Rattle.lcr_core.specs.Passed.{Sides}
-use Rattle.lcr_core.specs.Version.{valid, newOf}
-use Rattle.lcr_core.specs.declared.version.Checked.the-variants.{Is, Refused}
-use Rattle.lcr_core.specs.declared.version.Version.{Version}
+use Rattle.lcr_core.specs.Version.{versionRefusal}
 use Rattle.lcr_core.proofs.Checks.{first-passes, sides-pass}
 use Rattle.binary.specs.Refusal.{shortBits, bitsRefusal}
 use Rattle.alignment.specs.Alignment.{alignmentRefusal}
@@ -32,24 +30,9 @@ module _ (len w h version r : ℕ) (e : r ≡ bitsRefusal len w h) where
   unfolding bitsRefusal alignmentRefusal
   bits-refused n = e ∙ first-stays (zeroSide w h) (largeSide w h) (shortBits len w h) _ (λ z. n (e ∙ z))
 
-  pub version-refused : r ≡ 0 → (k : ℕ) → k ≡ cond (not (valid version)) 7 0 → k ≡ alignmentRefusal len w h version
-  unfolding bitsRefusal alignmentRefusal
+  pub version-refused : r ≡ 0 → (k : ℕ) → k ≡ versionRefusal version → k ≡ alignmentRefusal len w h version
+  unfolding bitsRefusal versionRefusal alignmentRefusal
   version-refused z k q = q ∙ last-counts (zeroSide w h) (largeSide w h) (shortBits len w h) _ (sym e ∙ z)
-
--- what `Version::new` answered
-pub accepted : (v : ℕ) (x : Version) → newOf v ≡ Is x → _≡_ {A = ℕ} 0 (cond (not (valid v)) 7 0)
-accepted v x h = go (valid v) h
-  where
-    go : (b : Bool) → cond b (Is (record { 0 = v })) Refused ≡ Is x → _≡_ {A = ℕ} 0 (cond (not b) 7 0)
-    go true e = refl
-    go false e = let z : _≡_ {A = ℕ} 0 1 = cc in absurd (omega arith)
-
-pub rejected : (v : ℕ) → newOf v ≡ Refused → _≡_ {A = ℕ} 7 (cond (not (valid v)) 7 0)
-rejected v h = go (valid v) h
-  where
-    go : (b : Bool) → cond b (Is (record { 0 = v })) Refused ≡ Refused → _≡_ {A = ℕ} 7 (cond (not b) 7 0)
-    go true e = let z : _≡_ {A = ℕ} 0 1 = cc in absurd (omega arith)
-    go false e = refl
 
 pub passed : (len w h version : ℕ) → alignmentRefusal len w h version ≡ 0 → Sides w h
 unfolding alignmentRefusal

@@ -1,13 +1,13 @@
 -- The alignment functions. Document 01: refusals "1, 2, 4, 7"; "Alignment: none below version 2", the template match (specs/Template.antt), "if no site has 23, `find_alignment`
 -- searches the rows" (crate rows), and `refine_alignment` "answers none but keeps the transform it was given". Definitions only.
 use Prim.Native.Nat.{ℕ}
-use mathlib.Core.Bool.{Bool, true, false, not, _&&_, cond}
-use mathlib.Core.List.{List, [], _∷_, _++_}
+use mathlib.Core.Bool.{Bool, true, false, _&&_, cond}
+use mathlib.Core.List.{List, _++_}
 use lib.Dec.{ltb}
 use lib.ListN.{length}
 use lib.Ieee.{Float}
 use Rattle.lcr_core.specs.Outcome.{firstOf, unless}
-use Rattle.lcr_core.specs.Version.{valid}
+use Rattle.lcr_core.specs.Version.{versionChecks}
 use Rattle.binary.specs.Refusal.{bitsChecks}
 use Rattle.transform.specs.Fit.{zeroTransform}
 use Rattle.geometry.specs.Build.{builtOf}
@@ -21,9 +21,9 @@ use Rattle.transform.specs.declared.Transform.{Transform}
 use Rattle.alignment.specs.declared.Refined.{Refined}
 use Rattle.alignment.specs.Template.{centreOf, matchedOf}
 
--- 1, 2, 4, then 7: the version is outside 1 to 64
+-- 1, 2, 4, then 7
 unfoldable pub alignmentRefusal : ℕ → ℕ → ℕ → ℕ → ℕ
-alignmentRefusal len w h version = firstOf (bitsChecks len w h ++ (record { refuses = not (valid version); number = 7 } ∷ []))
+alignmentRefusal len w h version = firstOf (bitsChecks len w h ++ versionChecks version)
 
 -- `match_alignment`
 unfoldable pub matchOf : List ℕ → ℕ → ℕ → Transform → ℕ → Located

@@ -1,5 +1,5 @@
 pub mod Bits
 pub mod Runs
 pub mod Words
-pub mod Packed
+pub mod Theorems
 pub mod Pass

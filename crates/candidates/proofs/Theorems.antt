@@ -15,7 +15,7 @@ use Rattle.lcr_core.specs.Outcome.{zeroSide, largeSide}
 use Rattle.lcr_core.proofs.Checks.{first-passes}
 use Rattle.lcr_core.specs.declared.version.Found.the-variants.{Is, Nothing}
 use Rattle.lcr_core.specs.declared.version.Version.{Version}
-use Rattle.lcr_core.specs.Version.{valid}
+use Rattle.lcr_core.specs.Version.{valid, versionRefusal}
 use Rattle.binary.specs.Refusal.{shortBits, bitsRefusal}
 use Rattle.transform.specs.declared.Transform.{Transform}
 use Rattle.geometry.specs.declared.Corners.{Corners}
@@ -62,7 +62,7 @@ module _ (bits : List ℕ) (w h : ℕ) (done : bitsRefusal (length bits) w h ≡
   passes = let p = bits-passed (length bits) w h done in rw (p .0, p .1, p .2, estimate-valid c v e)
 
   pub built-not-refused : (m : Marker) → builtOf c m (v .0) .refusal ≡ 0
-  unfolding builtOf
+  unfolding builtOf versionRefusal
   built-not-refused m = rw (estimate-valid c v e)
 
   pub located-not-refused : (t : Transform) (m : Float) → locateOf bits w h t (v .0) m .refusal ≡ 0

@@ -1,5 +1,5 @@
 -- The answers put together, from the values that the calls gave. Assumes nothing.
-use mathlib.Core.Path.{_≡_, refl, ap, _∙_}
+use mathlib.Core.Path.{_≡_, refl, sym, ap, _∙_}
 use mathlib.Core.Bool.{Bool, true, false, cond, _||_}
 use Prim.Native.Nat.{ℕ, _+_, _≤_, _<_, min}
 use native.Mathlib.Omega.{arith}
@@ -13,14 +13,14 @@ use Rattle.transform.specs.declared.Triangle.{Triangle}
 use Rattle.transform.specs.declared.Fit.{Fit}
 use Rattle.transform.specs.declared.Transform.{Transform}
 use Rattle.transform.specs.Fit.{quadFit, zeroTransform}
-use Rattle.lcr_core.specs.Version.{valid, newOf, sideOf}
+use Rattle.lcr_core.specs.Version.{valid, newOf, checkedNumber, versionRefusal, sideOf}
 use Rattle.lcr_core.specs.declared.version.Checked.{Checked}
 use Rattle.lcr_core.specs.declared.version.Checked.the-variants.{Is, Refused}
 use Rattle.lcr_core.specs.declared.version.Version.{Version}
 use Rattle.lcr_core.specs.declared.version.Found.the-variants as found
 use Rattle.geometry.specs.Order.{point}
 use Rattle.geometry.specs.Estimate.{sideIn, nearestVersion, estimateOf}
-use Rattle.geometry.specs.Build.{modulesOf, pixelsOf, affineOf, homographyOf, symbolFit, refused, builtOf}
+use Rattle.geometry.specs.Build.{modulesOf, pixelsOf, affineOf, homographyOf, symbolFit, builtOf}
 use Rattle.geometry.specs.declared.Corners.{Corners}
 use Rattle.geometry.specs.declared.Marker.{Marker}
 use Rattle.geometry.specs.declared.Marker.the-variants.{At, Missing}
@@ -83,19 +83,23 @@ pub fit-missing : (c : Corners) (m : Marker) (v side : ℕ) (f : Fit) → m ≡ 
 unfolding symbolFit
 fit-missing c m v side f e s k = rw (e, k, s)
 
-module _ (c : Corners) (m : Marker) (v : ℕ) (r : Checked) (e : r ≡ newOf v) where
+-- a valid version is answered as it is
+same-version : (v : ℕ) (w : Version) → Is w ≡ newOf v → w .0 ≡ v
+same-version v w e = go (valid v) e
+  where
+    go : (b : Bool) → Is w ≡ cond b (Is (record { 0 = v })) Refused → w .0 ≡ v
+    go true k = cc
+    go false k = let z : _≡_ {A = ℕ} 0 1 = cc in absurd (omega arith)
+
+module _ (c : Corners) (m : Marker) (v : ℕ) (r : Checked) (e : (r ≡ newOf v) × (checkedNumber r ≡ versionRefusal v)) where
   pub built : (w : Version) (f : Fit) → r ≡ Is w → f ≡ symbolFit c m (w .0) → _≡_ {A = Built} (record { refusal = 0; fit = f }) (builtOf c m v)
   unfolding builtOf
-  built w f h g = go (valid v) e
-    where
-      go : (b : Bool) → r ≡ cond b (Is (record { 0 = v })) Refused → _≡_ {A = Built} (record { refusal = 0; fit = f }) (cond b (record { refusal = 0; fit = symbolFit c m v }) refused)
-      go true k = let z : w .0 ≡ v = cc in ap (λ (f : Fit). record { refusal = 0; fit = f }) (g ∙ ap (symbolFit c m) z)
-      go false k = let z : _≡_ {A = ℕ} 0 1 = cc in absurd (omega arith)
+  built w f h g =
+      let n : 0 ≡ versionRefusal v = ap checkedNumber (sym h) ∙ e .1 in
+      rw (← n, g, same-version v w (sym h ∙ e .0))
 
   pub not-built : (z : Transform) → r ≡ Refused → z ≡ zeroTransform → _≡_ {A = Built} (record { refusal = 7; fit = record { found = false; transform = z } }) (builtOf c m v)
   unfolding builtOf
-  not-built z h k = ap (λ (z : Transform). record { refusal = 7; fit = record { found = false; transform = z } }) k ∙ go (valid v) e
-    where
-      go : (b : Bool) → r ≡ cond b (Is (record { 0 = v })) Refused → refused ≡ cond b (record { refusal = 0; fit = symbolFit c m v }) refused
-      go true k = let z : _≡_ {A = ℕ} 0 1 = cc in absurd (omega arith)
-      go false k = refl
+  not-built z h k =
+      let n : 7 ≡ versionRefusal v = ap checkedNumber (sym h) ∙ e .1 in
+      rw (← n, k)

@@ -10,7 +10,8 @@ use Rattle.transform.specs.Fit.{quadFit, triangleFit, zeroTransform}
 use Rattle.transform.specs.declared.Point.{Point}
 use Rattle.transform.specs.declared.Triangle.{Triangle}
 use Rattle.transform.specs.declared.Fit.{Fit}
-use Rattle.lcr_core.specs.Version.{valid, sideOf}
+use Rattle.lcr_core.specs.Outcome.{unless}
+use Rattle.lcr_core.specs.Version.{versionRefusal, sideOf}
 use Rattle.geometry.specs.Order.{point, centreOf}
 use Rattle.geometry.specs.declared.Corners.{Corners}
 use Rattle.geometry.specs.declared.Marker.{Marker}
@@ -46,10 +47,10 @@ symbolFit c (At a) v =
     let side = whole32 (sideOf v) in
     cond (ltb v 2) (affineOf c side) (orElse (homographyOf c a side) (affineOf c side))
 
--- refusal 7
-abbrev pub refused : Built
-refused = record { refusal = 7; fit = record { found = false; transform = zeroTransform } }
+-- none, as a refusal leaves it
+abbrev pub noFit : Fit
+noFit = record { found = false; transform = zeroTransform }
 
 -- `build_transform`
 unfoldable pub builtOf : Corners → Marker → ℕ → Built
-builtOf c marker v = cond (valid v) (record { refusal = 0; fit = symbolFit c marker v }) refused
+builtOf c marker v = let n = versionRefusal v in record { refusal = n; fit = unless n noFit (symbolFit c marker v) }

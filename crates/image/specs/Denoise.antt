@@ -6,7 +6,7 @@ use mathlib.Core.List.{List, [], _∷_}
 use lib.ListN.{length}
 use lib.Dec.{ltb, leb}
 use Rattle.lists.specs.Lists.{filled, sumTo}
-use Rattle.lcr_core.specs.Outcome.{Check, firstOf, unless, zeroSide, largeSide}
+use Rattle.lcr_core.specs.Outcome.{firstOf, unless, zeroSide, largeSide}
 use Rattle.binary.specs.Binary.{bit, darkBit, darkAt, byteOf, bytesOf}
 use Rattle.binary.specs.Refusal.{shortBits}
 

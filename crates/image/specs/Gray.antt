@@ -6,7 +6,7 @@ use mathlib.Core.List.{List, [], _∷_}
 use lib.ListN.{getD, length}
 use lib.Dec.{eqb, ltb}
 use Rattle.lists.specs.Lists.{filled}
-use Rattle.lcr_core.specs.Outcome.{Check, firstOf, unless, zeroSide, largeSide}
+use Rattle.lcr_core.specs.Outcome.{firstOf, unless, zeroSide, largeSide}
 use Rattle.image.specs.declared.PixelFormat.{PixelFormat}
 use Rattle.image.specs.declared.PixelFormat.the-variants.{Gray8, Rgb8, Rgba8}
 use Rattle.image.specs.declared.Found.{Found}

@@ -1,7 +1,9 @@
 -- Versions and their sides (document 004). Definitions only.
-use mathlib.Core.Bool.{Bool, cond, _&&_}
+use mathlib.Core.Bool.{Bool, cond, not, _&&_}
+use mathlib.Core.List.{List, [], _∷_}
 use Prim.Native.Nat.{ℕ, _+_, _-_, _*_, _/_, _%_}
 use lib.Dec.{leb, eqb}
+use Rattle.lcr_core.specs.Outcome.{Check, firstOf}
 use Rattle.lcr_core.specs.declared.version.Checked.{Checked}
 use Rattle.lcr_core.specs.declared.version.Checked.the-variants as checked
 use Rattle.lcr_core.specs.declared.version.Found.{Found}
@@ -11,11 +13,18 @@ use Rattle.lcr_core.specs.declared.version.Found.the-variants as found
 abbrev pub valid : ℕ → Bool
 valid v = leb 1 v && leb v 64
 
+-- 7: a version outside 1 to 64
+abbrev pub versionChecks : ℕ → List Check
+versionChecks v = record { refuses = not (valid v); number = 7 } ∷ []
+
+unfoldable pub versionRefusal : ℕ → ℕ
+versionRefusal v = firstOf (versionChecks v)
+
 -- `Version::new`
 abbrev pub newOf : ℕ → Checked
 newOf v = cond (valid v) (checked.Is (record { 0 = v })) checked.Refused
 
--- document 01's number of each case: 7 outside 1 to 64
+-- document 01's number of each of its cases
 abbrev pub checkedNumber : Checked → ℕ
 checkedNumber (checked.Is v) = 0
 checkedNumber checked.Refused = 7

@@ -1,7 +1,7 @@
 // The size class of a symbol: version v, from 1 to 64, has 17 + 4 v modules on a side.
 ghost use mathlib.Core.Path.{_≡_};
 ghost use Prim.Native.Nat.{_*_};
-ghost use Rattle.lcr_core.specs.Version.{newOf, sideOf, ofSide};
+ghost use Rattle.lcr_core.specs.Version.{newOf, checkedNumber, versionRefusal, sideOf, ofSide};
 
 pub struct Version(pub u8);
 
@@ -26,7 +26,8 @@ impl Version {
 
     // Version v, refused outside 1 to 64.
     pub fn new(v: u8) -> Checked
-        ensures { λ r. ⌜ r ≡ newOf v ⌝ }
+        ensures version { λ r. ⌜ r ≡ newOf v ⌝ }
+        ensures number { λ r. ⌜ checkedNumber r ≡ versionRefusal v ⌝ }
     {
         if v < 1 {
             return Checked::Refused;

@@ -6,7 +6,7 @@ use mathlib.Core.List.{List, [], _∷_, _++_, append-assoc, append-nil}
 use Prim.Native.Nat.{ℕ, zero, suc, _+_, _≤_, _<_}
 use native.Mathlib.Omega.{arith}
 use lib.ListN.{length, getD}
-use Rattle.lists.specs.Lists.{Each, Some, those, howMany, count}
+use Rattle.lists.specs.Lists.{Each, Some, those, howMany}
 
 -- ---- what holds of each
 module _ {A : Type 0} where

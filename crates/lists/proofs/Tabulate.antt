@@ -83,14 +83,3 @@ module _ {A : Type 0} where
   pub getD-filled : (n : ℕ) (f : ℕ → A) (l : List A) (i : ℕ) (d : A) → i < n → getD (filled n f l) i d ≡ f i
   getD-filled n f l i d h =
       let k : i < length (tabulate n f) = rw length-tabulate h in List·getD-append (tabulate n f) (drop n l) d i k ∙ getD-tabulate n f i d h
-
-  -- a list that is filled to its end
-  pub filled-exact : (n : ℕ) (f : ℕ → A) (d : List A) → length d ≡ n → filled n f d ≡ tabulate n f
-  filled-exact n f d e = rw (← e) (ap (λ (t : List A). tabulate (length d) f ++ t) (drop-length d) ∙ append-nil (tabulate (length d) f))
-
-  -- a first part that came back whole is found again
-  pub front : (n : ℕ) (f : ℕ → A) (e d : List A) → e ≡ tabulate n f → take n (e ++ d) ≡ tabulate n f
-  front n f e d q = take-at e d n (ap length q ∙ length-tabulate n f) ∙ q
-
-  pub length-of-front : (n : ℕ) (f : ℕ → A) (e d : List A) → e ≡ tabulate n f → n ≡ length (take n (e ++ d))
-  length-of-front n f e d q = sym (ap length (front n f e d q) ∙ length-tabulate n f)

@@ -2,10 +2,9 @@
 use mathlib.Core.Path.{_≡_, refl, sym, ap, _∙_}
 use mathlib.Core.List.{List, [], _∷_, _++_}
 use Prim.Native.Nat.{ℕ, zero, suc, _+_, _*_, _/_, _%_, _^_, _≤_, _<_}
-use native.Mathlib.Nat.{add-zero, pow-suc}
-use native.Mathlib.Numerals.{add-one}
+use native.Mathlib.Nat.{pow-suc}
 use native.Mathlib.Omega.{arith}
-use lib.ListN.{length, drop, getD, set, length-append, length-set}
+use lib.ListN.{length, drop, set, length-append, length-set}
 use lib.Seq.{set-append-seam, append-snoc, getD-append-add}
 use Rattle.little_endian.specs.Bytes.{bytesLE, readLE, put}
 

@@ -2,7 +2,6 @@
 use lcr_core::Outcome;
 ghost use mathlib.Core.Path.{_≡_};
 ghost use Prim.Native.Nat.{_≤_};
-ghost use lib.ListN.{length};
 ghost use Rattle.lcr_core.specs.Outcome.{numberOf, firstOf};
 ghost use Rattle.finders.specs.Search.{maxFinders};
 ghost use Rattle.stored.specs.Stored.{badHead, badLength, manyFinders, shortOutput, readRefusal, writeChecks};

@@ -1,6 +1,7 @@
 -- `alignment::check` meets its contract. Assumes nothing.
-use mathlib.Core.Path.{sym, _∙_}
-use Rattle.alignment.proofs.Refusals.{bits-refused, version-refused, accepted, rejected}
+use mathlib.Core.Path.{sym, ap, _∙_}
+use Rattle.lcr_core.specs.Version.{checkedNumber}
+use Rattle.alignment.proofs.Refusals.{bits-refused, version-refused}
 use borrow.Author.Needs.{needs}
 use Rattle.alignment.proofs.check.Statement.{statement}
 use Rattle.alignment.proofs.check.Tie as tie
@@ -24,10 +25,10 @@ enum-told-2 : tie.Need-enum-told-2
 enum-told-2 c = search needs
 
 returns-2 : tie.Need-returns-2
-returns-2 c = version-refused _ _ _ _ _ (c .before .before .before .before .number .ensures ∙ c .before .before .before .before .before .check-bits .ensures) (c .before .before .before .if1 .left) _ (accepted (c .before .before .before .before .before .before .args .version) _ (sym (c .before .before .new .ensures) ∙ c .enum-told .given .1))
+returns-2 c = version-refused _ _ _ _ _ (c .before .before .before .before .number .ensures ∙ c .before .before .before .before .before .check-bits .ensures) (c .before .before .before .if1 .left) _ (ap checkedNumber (sym (c .enum-told .given .1)) ∙ c .before .before .new .ensures .1)
 
 returns-3 : tie.Need-returns-3
-returns-3 c = version-refused _ _ _ _ _ (c .before .before .before .before .number .ensures ∙ c .before .before .before .before .before .check-bits .ensures) (c .before .before .before .if1 .left) _ (rejected (c .before .before .before .before .before .before .args .version) (sym (c .before .before .new .ensures) ∙ c .enum-told2 .given .1))
+returns-3 c = version-refused _ _ _ _ _ (c .before .before .before .before .number .ensures ∙ c .before .before .before .before .before .check-bits .ensures) (c .before .before .before .if1 .left) _ (ap checkedNumber (sym (c .enum-told2 .given .1)) ∙ c .before .before .new .ensures .1)
 
 pub check-spec : {M : Type 1} → statement M
 check-spec =

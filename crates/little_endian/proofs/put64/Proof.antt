@@ -1,7 +1,6 @@
 -- `little_endian::put64` meets its contract. Assumes nothing.
-use mathlib.Core.Path.{_≡_, _∙_, ap}
+use mathlib.Core.Path.{_∙_}
 use denote.Ref.{now}
-use Rattle.little_endian.specs.Bytes.{bytesLE, put}
 use Rattle.little_endian.proofs.Halves.{put-eight}
 use borrow.Author.Needs.{needs}
 use Rattle.little_endian.proofs.put64.Statement.{statement}

@@ -1,6 +1,6 @@
 -- `finders::search::scan_axis` meets its contract. Assumes nothing.
 use mathlib.Core.Path.{_≡_, refl, sym, ap, _∙_, subst}
-use Prim.Native.Nat.{_+_, _-_, _*_, _/_, _%_, _^_, _≤_}
+use Prim.Native.Nat.{_+_, _-_, _*_, _/_, _%_, _≤_}
 use native.Mathlib.Omega.{arith}
 use denote.Ref.{now}
 use Rattle.lists.specs.Lists.{range, folded}

@@ -1,7 +1,6 @@
 -- `little_endian::parts::put_four` meets its contract. Assumes nothing.
-use mathlib.Core.Path.{_≡_, _∙_, ap}
+use mathlib.Core.Path.{_∙_}
 use denote.Ref.{now}
-use Rattle.little_endian.specs.Bytes.{bytesLE, put}
 use Rattle.little_endian.proofs.Halves.{put-four}
 use borrow.Author.Needs.{needs}
 use Rattle.little_endian.proofs.parts.put_four.Statement.{statement}
