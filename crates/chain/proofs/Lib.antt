@@ -1,2 +1,3 @@
 pub mod Theorems
 pub mod Chained
+pub mod EntryLaws

@@ -13,6 +13,8 @@ ghost use Rattle.binarize.specs.Binarize.{isDark};
 ghost use Rattle.stages.specs.Stages.{stagesRefusal};
 ghost use Rattle.chain.specs.Chain.{chainAnswer, leftAfter};
 
+pub mod entry;
+
 // Gray conversion, black and white conversion, denoising and the detections of the denoised bits. Refusals 1 to 5 come before a byte is written; after 6,
 // too many finders, the lent slices hold what they hold after 0.
 pub fn chain(
