@@ -1,6 +1,6 @@
 -- The sites of a sweep, and the first best of them. Assumes nothing.
 use mathlib.Core.Path.{_≡_, refl, sym, subst}
-use mathlib.Core.Bool.{Bool, true, false, _&&_, true≢false}
+use mathlib.Core.Bool.{Bool, true, false, _&&_}
 use mathlib.Core.List.{List, [], _∷_}
 use Prim.Native.Nat.{ℕ, zero, suc, _+_, _-_, _*_, _/_, _%_, _<_}
 use native.Mathlib.Nat.{mod-lt, div-lt-iff-lt-mul}
@@ -12,6 +12,7 @@ use Rattle.lists.specs.Lists.{Each, count, range, folded}
 use Rattle.lists.proofs.Filters.{each-right}
 use Rattle.float.specs.Floats.{isNumber}
 use Rattle.float.specs.Steps.{times32}
+use Rattle.float.proofs.Order.{and-both}
 use Rattle.transform.specs.declared.Transform.{Transform}
 use Rattle.alignment.specs.Template.{less, along, siteAt, siteOf, betterOf, sweepBest}
 use Rattle.alignment.specs.declared.template.Site.{Site}
@@ -38,17 +39,13 @@ unfoldable pub below : ℕ → (ℕ → Bool) → Bool
 below zero p = true
 below (suc n) p = below n p && p n
 
-both : (a b : Bool) → (a && b) ≡ true → (a ≡ true) × (b ≡ true)
-both true b h = (refl, h)
-both false b h = absurd (true≢false (sym h))
-
 below-at : (n : ℕ) (p : ℕ → Bool) → below n p ≡ true → (i : ℕ) → i < n → p i ≡ true
 unfolding below
 below-at zero p h i l = absurd (omega arith)
-below-at (suc n) p h i l = go (eqb i n) refl (below-at n p (both (below n p) (p n) h .0) i)
+below-at (suc n) p h i l = go (eqb i n) refl (below-at n p (and-both (below n p) (p n) h .0) i)
   where
     go : (v : Bool) → eqb i n ≡ v → (i < n → p i ≡ true) → p i ≡ true
-    go true e f = rw (eqb-true i n e) (both (below n p) (p n) h .1)
+    go true e f = rw (eqb-true i n e) (and-both (below n p) (p n) h .1)
     go false e f = let x = eqb-false i n e in f (omega arith)
 
 -- the steps of a sweep are finite

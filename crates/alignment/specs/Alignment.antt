@@ -29,25 +29,29 @@ alignmentRefusal len w h version = firstOf (bitsChecks len w h ++ versionChecks 
 unfoldable pub matchOf : List ℕ → ℕ → ℕ → Transform → ℕ → Located
 matchOf bits w h t version = answer (alignmentRefusal (length bits) w h version) (matchedOf bits w h t version)
 
--- `locate_alignment`: none below version 2; the template match, or else the search about the place where the transform puts the marker's centre
+-- the first marker that there is
 abbrev pub orElse : Marker → Marker → Marker
 orElse (At p) other = At p
 orElse Missing other = other
 
+-- by runs along rows, about the place where the transform puts the marker's centre
 unfoldable pub searchedOf : List ℕ → ℕ → ℕ → Transform → ℕ → Float → Marker
 searchedOf bits w h t version m = let c = centreOf version in findOf bits w h (applied t c c) m .marker
 
+-- none below version 2; by the template match, or else by runs along rows
 unfoldable pub locatedOf : List ℕ → ℕ → ℕ → Transform → ℕ → Float → Marker
 locatedOf bits w h t version m = cond (ltb version 2) Missing (orElse (matchedOf bits w h t version) (searchedOf bits w h t version m))
 
+-- `locate_alignment`
 unfoldable pub locateOf : List ℕ → ℕ → ℕ → Transform → ℕ → Float → Located
 locateOf bits w h t version m = answer (alignmentRefusal (length bits) w h version) (locatedOf bits w h t version m)
 
--- `refine_alignment`: the transform through the finders and the marker; without a marker, or where there is no such transform, the one given
+-- whether there is a marker
 abbrev pub isFound : Marker → Bool
 isFound (At p) = true
 isFound Missing = false
 
+-- the transform through the finders and the marker; without a marker, or where there is no such transform, the one given
 unfoldable pub rebuiltOf : Corners → Marker → ℕ → Transform → Transform
 rebuiltOf corners a version t = let f = builtOf corners a version .fit in cond (isFound a && f .found) (f .transform) t
 
@@ -55,6 +59,7 @@ rebuiltOf corners a version t = let f = builtOf corners a version .fit in cond (
 abbrev pub refined : ℕ → Transform → Marker → Refined
 refined n t a = record { refusal = n; transform = unless n zeroTransform t; marker = unless n Missing a }
 
+-- `refine_alignment`: the marker located once more, and the transform rebuilt through it
 unfoldable pub refineOf : List ℕ → ℕ → ℕ → Corners → ℕ → Transform → Float → Refined
 refineOf bits w h corners version t m =
     let a = locatedOf bits w h t version m in

@@ -30,6 +30,7 @@ outsideOf n x = lt x f0 || le (whole32 n) x
 abbrev pub taps : List Point
 taps = point f0 f0 ∷ point (neg quarter) f0 ∷ point quarter f0 ∷ point f0 (neg quarter) ∷ point f0 quarter ∷ []
 
+-- before the first tap
 abbrev pub noVotes : Votes
 noVotes = record { seen = 0; dark = 0 }
 
@@ -38,6 +39,7 @@ module _ (bits : List ℕ) (w h : ℕ) where
   unfoldable pub pixelAt : Point → ℕ
   pixelAt p = bit (darkAt bits w h (toUnsigned 32 (p .x)) (toUnsigned 32 (p .y)))
 
+  -- one tap more, at p, which counts if it is in the picture
   unfoldable pub tapped : Votes → Point → Votes
   tapped v p = cond (outsideOf w (p .x) || outsideOf h (p .y)) v (record { seen = v .seen + 1; dark = v .dark + pixelAt p })
 
@@ -52,6 +54,7 @@ module _ (bits : List ℕ) (w h : ℕ) where
 
 -- ---- the marker: 5 × 5 modules, dark but for the ring about the middle one
 
+-- whether the module in column i and row j is dark
 unfoldable pub wantDark : ℕ → ℕ → Bool
 wantDark i j = not (eqb (max (dist i 2) (dist j 2)) 1)
 
@@ -98,6 +101,7 @@ module _ (bits : List ℕ) (w h : ℕ) (t : Transform) (c : Float) where
   abbrev pub siteOf : ℕ → Float → Float → Float → ℕ → Site
   siteOf m step x y k = siteAt bits w h t c (along m step x (k % m)) (along m step y (k / m))
 
+  -- the better of the best so far and site k
   abbrev pub visited : ℕ → Float → Float → Float → Site → ℕ → Site
   visited m step x y best k = betterOf best (siteOf m step x y k)
 
@@ -105,6 +109,7 @@ module _ (bits : List ℕ) (w h : ℕ) (t : Transform) (c : Float) where
   unfoldable pub sweepBest : ℕ → Float → Site → Site
   sweepBest m step best = folded (visited m step (best .x) (best .y)) best (range 0 (m * m))
 
+  -- the three sweeps
   unfoldable pub bestOf : Site
   bestOf = sweepBest 9 f1/32 (sweepBest 9 f1/8 (sweepBest 13 half noSite))
 

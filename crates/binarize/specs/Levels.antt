@@ -30,10 +30,11 @@ marked mark i = eqb (mark i) 1
 abbrev pub markedMeans : (ℕ → ℕ) → (ℕ → ℕ) → List ℕ → List ℕ
 markedMeans means mark is = map means (those (marked mark) is)
 
--- the edge marks if any of n blocks has one, otherwise the near marks
+-- whether one of n blocks is marked
 abbrev pub anyMarked : (ℕ → ℕ) → ℕ → Bool
 anyMarked mark n = ltb 0 (howMany (marked mark) (range 0 n))
 
+-- the edge marks if any of n blocks has one, otherwise the near marks
 abbrev pub chosen : (ℕ → ℕ) → (ℕ → ℕ) → ℕ → ℕ → ℕ
 chosen edge near n = cond (anyMarked edge n) edge near
 
@@ -47,9 +48,10 @@ module _ (means edge near : ℕ → ℕ) (bw bh : ℕ) where
   abbrev pub window : (ℕ → ℕ) → ℕ → ℕ → ℕ → List ℕ
   window mark x y r = markedMeans means mark (cells bw (about bw x r) (about bh y r))
 
-  -- the first of four windows that holds a marked block gives the block's level, otherwise another applies
+  -- the level of that block: the first of four windows that holds a marked block gives it, otherwise another applies
   unfoldable pub windowLevel : ℕ → ℕ → ℕ → ℕ
   windowLevel x y other = firstLevel (window edge x y 2 ∷ window edge x y 4 ∷ window near x y 2 ∷ window near x y 4 ∷ []) other
 
+  -- which is the global level
   abbrev pub levelAt : ℕ → ℕ → ℕ
   levelAt x y = windowLevel x y globalLevel

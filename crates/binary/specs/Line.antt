@@ -1,5 +1,5 @@
 -- A line of a bit picture, as a row or a column, and its runs. Definitions only.
-use Prim.Native.Nat.{ℕ, zero, suc, _+_, _*_}
+use Prim.Native.Nat.{ℕ, zero, suc, _+_, _-_, _*_, min}
 use mathlib.Core.Bool.{Bool, cond, Bool·beq}
 use mathlib.Core.List.{List}
 use Rattle.binary.specs.Binary.{darkBit}
@@ -8,10 +8,11 @@ use Rattle.binary.specs.Binary.{darkBit}
 abbrev pub pixel : List ℕ → ℕ → ℕ → ℕ → Bool
 pixel bits start stride k = darkBit bits (start + k * stride)
 
--- row y and column x of a picture of width w
+-- row y of a picture of width w
 abbrev pub row : List ℕ → ℕ → ℕ → ℕ → Bool
 row bits w y = pixel bits (y * w) 1
 
+-- column x
 abbrev pub column : List ℕ → ℕ → ℕ → ℕ → Bool
 column bits w x = pixel bits x w
 
@@ -25,3 +26,11 @@ unfoldable pub runBack : Bool → (ℕ → Bool) → ℕ → ℕ → ℕ
 runBack colour f zero n = 0
 runBack colour f (suc i) zero = 0
 runBack colour f (suc i) (suc n) = cond (Bool·beq (f i) colour) (suc (runBack colour f i n)) 0
+
+-- on a line f of len pixels, the run of a colour that ends before pixel i, limit pixels at most
+abbrev pub runBefore : Bool → (ℕ → Bool) → ℕ → ℕ → ℕ
+runBefore colour f limit i = runBack colour f i (min limit i)
+
+-- and the one that starts at pixel i
+abbrev pub runAfter : Bool → (ℕ → Bool) → ℕ → ℕ → ℕ → ℕ
+runAfter colour f len limit i = run colour f i (min limit (len - i))

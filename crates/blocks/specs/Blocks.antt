@@ -10,6 +10,7 @@ use Rattle.lcr_core.specs.Outcome.{firstOf, zeroSide, largeSide}
 
 -- ---- values of a list
 
+-- all added up
 abbrev pub sum : List ℕ → ℕ
 sum l = folded _+_ 0 l
 
@@ -17,9 +18,11 @@ sum l = folded _+_ 0 l
 abbrev pub mean : List ℕ → ℕ
 mean l = sum l / length l
 
+-- of bytes: 255 where there is none
 abbrev pub least : List ℕ → ℕ
 least l = folded min 255 l
 
+-- of bytes: 0 where there is none
 abbrev pub greatest : List ℕ → ℕ
 greatest l = folded max 0 l
 
@@ -46,6 +49,7 @@ blocksOn n = (n + 7) / 8
 abbrev pub pixelsOf : ℕ → ℕ → List ℕ
 pixelsOf n b = range (b * 8) (min n (b * 8 + 8))
 
+-- and in a picture of w × h pixels
 abbrev pub blocksIn : ℕ → ℕ → ℕ
 blocksIn w h = blocksOn h * blocksOn w
 
@@ -53,13 +57,15 @@ blocksIn w h = blocksOn h * blocksOn w
 unfoldable pub mark : ℕ → ℕ → ℕ
 mark lo hi = cond (ltb 24 (hi - lo)) 1 0
 
--- the marks of block number i, from the least and greatest values of all blocks
+-- the edge mark of block number i, from the least and greatest values of all blocks
 abbrev pub edgeOf : (ℕ → ℕ) → (ℕ → ℕ) → ℕ → ℕ
 edgeOf lo hi i = mark (lo i) (hi i)
 
+-- the numbers of its 3 × 3 block neighbourhood, of bw × bh blocks
 abbrev pub neighbours : ℕ → ℕ → ℕ → List ℕ
 neighbours bw bh i = cells bw (about bw (i % bw) 1) (about bh (i / bw) 1)
 
+-- its near mark
 abbrev pub nearOf : (ℕ → ℕ) → (ℕ → ℕ) → ℕ → ℕ → ℕ → ℕ
 nearOf lo hi bw bh i = mark (least (map lo (neighbours bw bh i))) (greatest (map hi (neighbours bw bh i)))
 

@@ -28,6 +28,7 @@ cornersOf fs t = orderOf (finderAt fs (t .i)) (finderAt fs (t .j)) (finderAt fs 
 abbrev pub kept : Built → List Detection
 kept b = cond (b .found) (b .detection ∷ []) []
 
+-- that of a triple of the finders fs
 unfoldable pub detectionOf : List ℕ → ℕ → ℕ → List Finder → Triple → List Detection
 detectionOf bits w h fs t = kept (buildOf bits w h (cornersOf fs t))
 
@@ -53,10 +54,11 @@ fromAnswer bits w h fs = answered (bitsRefusal (length bits) w h) (detectionsOf 
 unfoldable pub detectAnswer : List ℕ → ℕ → ℕ → Answer
 detectAnswer bits w h = answered (findRefusal bits w h) (detectionsOf bits w h (findersOf bits w h))
 
--- `detect`: the same refusals, or the first detection, if there is one
+-- a refusal's number, and the first detection, if there is one
 abbrev pub first : ℕ → List Detection → First
 first n [] = record { refusal = n; found = false; detection = zeroDetection }
 first n (d ∷ ds) = record { refusal = n; found = true; detection = d }
 
+-- `detect`: the refusals of `detect_candidates`, or its first detection
 unfoldable pub detectFirst : List ℕ → ℕ → ℕ → First
 detectFirst bits w h = let n = findRefusal bits w h in first n (unless n [] (detectionsOf bits w h (findersOf bits w h)))

@@ -31,6 +31,7 @@ zeroDetection =
       transform = zeroTransform;
     }
 
+-- no detection
 abbrev pub none : Built
 none = record { found = false; detection = zeroDetection }
 
@@ -66,5 +67,6 @@ module _ (bits : List ℕ) (w h : ℕ) (c : Corners) where
   buildFor Nothing = none
   buildFor (Is v) = buildWith (v .0)
 
+  -- `build_detection`
   unfoldable pub buildOf : Built
   buildOf = buildFor (estimateOf c)

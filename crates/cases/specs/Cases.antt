@@ -6,6 +6,7 @@ use mathlib.Core.List.{List, [], _∷_}
 use Rattle.ratio.specs.Ratio.{passes}
 use Rattle.binarize.specs.Levels.{level}
 
+-- what a case says
 pub data Case : Type 0 where
   -- five runs, and whether they pass
   runs : ℕ → ℕ → ℕ → ℕ → ℕ → Bool → Case
@@ -17,6 +18,7 @@ abbrev pub Holds : Case → Type 0
 Holds (runs a b c d e pass) = passes a b c d e ≡ pass
 Holds (means l v) = level l ≡ v
 
+-- those marked P
 abbrev pub cases : List Case
 cases =
     runs 1 1 3 1 1 true

@@ -1,13 +1,13 @@
 -- How a hit is confirmed (document 01, "Finding and ranking": "A row hit is confirmed down, then across, a column hit across, then down, each run
 -- stopping after 5 × module (truncated) + 4 pixels"). Definitions only.
-use Prim.Native.Nat.{ℕ, _+_, _-_, min}
+use Prim.Native.Nat.{ℕ, _+_, _-_}
 use mathlib.Core.Bool.{Bool, true, false, cond}
 use mathlib.Core.List.{List}
 use lib.Ieee.{Float, toUnsigned}
 use Rattle.float.specs.Steps.{plus32, times32, over32, whole32}
 use Rattle.float.specs.Constants.{f2, f5}
 use Rattle.binary.specs.Binary.{darkAt}
-use Rattle.binary.specs.Line.{row, column, run, runBack}
+use Rattle.binary.specs.Line.{row, column, runBefore, runAfter}
 use Rattle.ratio.specs.Ratio.{matchOf}
 use Rattle.ratio.specs.declared.Match.{Match}
 use Rattle.ratio.specs.declared.Match.the-variants as match
@@ -21,19 +21,12 @@ use Rattle.confirm.specs.declared.Side.{Side}
 abbrev pub limitOf : Float → ℕ
 limitOf m = toUnsigned 32 (times32 m f5) + 4
 
--- on the line f, of len pixels: the run of a colour that ends before pixel i, and the one that starts at pixel i
-abbrev pub before : Bool → (ℕ → Bool) → ℕ → ℕ → ℕ
-before colour f limit i = runBack colour f i (min limit i)
-
-abbrev pub after : Bool → (ℕ → Bool) → ℕ → ℕ → ℕ → ℕ
-after colour f len limit i = run colour f i (min limit (len - i))
-
 -- the light run beyond a core and the dark run beyond that: of a core that starts at pixel i, and of one that ends before it
 unfoldable pub sideBefore : (ℕ → Bool) → ℕ → ℕ → Side
-sideBefore f limit i = let l = before false f limit i in record { light = l; dark = before true f limit (i - l) }
+sideBefore f limit i = let l = runBefore false f limit i in record { light = l; dark = runBefore true f limit (i - l) }
 
 unfoldable pub sideAfter : (ℕ → Bool) → ℕ → ℕ → ℕ → Side
-sideAfter f len limit i = let l = after false f len limit i in record { light = l; dark = after true f len limit (i + l) }
+sideAfter f len limit i = let l = runAfter false f len limit i in record { light = l; dark = runAfter true f len limit (i + l) }
 
 -- the centre, where the runs pass
 abbrev pub centreIf : Match → Float → Centre
@@ -48,8 +41,8 @@ centreOf a core b top =
 -- the core is the dark run about pixel i
 unfoldable pub coreOf : (ℕ → Bool) → ℕ → ℕ → ℕ → Centre
 coreOf f len i limit =
-    let up = before true f limit i in
-    let down = after true f len limit (i + 1) in
+    let up = runBefore true f limit i in
+    let down = runAfter true f len limit (i + 1) in
     centreOf (sideBefore f limit (i - up)) (up + down + 1) (sideAfter f len limit (i + 1 + down)) (i - up)
 
 -- what follows a centre, where there is one

@@ -39,7 +39,7 @@ module _ (t : Finders) (w : t ≡ tableOf (heldIn t)) where
   pub table-length : t .count ≤ maxFinders → length (t .table) ≡ maxFinders
   table-length h = ap length table-is ∙ length-padded maxFinders zeroFinder (heldIn t) (rw held-length h)
 
-same-table : (n m : ℕ) (t u : List Finder) → n ≡ m → t ≡ u → _≡_ {A = Finders} (record { count = n; table = t }) (record { count = m; table = u })
+pub same-table : (n m : ℕ) (t u : List Finder) → n ≡ m → t ≡ u → _≡_ {A = Finders} (record { count = n; table = t }) (record { count = m; table = u })
 same-table n m t u p q = rw (p, q)
 
 -- ---- a hit in a table

@@ -23,11 +23,12 @@ tableOf fs = record { count = length fs; table = padded maxFinders zeroFinder fs
 abbrev pub heldIn : Finders → List Finder
 heldIn t = take (t .count) (t .table)
 
--- whether there was one finder too many, and the finders otherwise
+-- whether there was one finder too many
 abbrev pub isOver : Held → Bool
 isOver over = true
 isOver (held fs) = false
 
+-- the finders, none where there was one too many
 abbrev pub heldList : Held → List Finder
 heldList over = []
 heldList (held fs) = fs
@@ -41,6 +42,7 @@ findRefusal bits width height =
 abbrev pub findersOf : List ℕ → ℕ → ℕ → List Finder
 findersOf bits width height = ranked (heldList (found bits width height))
 
+-- `find_finders`
 unfoldable pub answerOf : List ℕ → ℕ → ℕ → Found
 answerOf bits width height =
     let n = findRefusal bits width height in

@@ -31,6 +31,7 @@ join x y m f =
     let n = whole32 (f .confirmations) in
     record { x = mean n (f .x) x; y = mean n (f .y) y; «module» = mean n (f .«module») m; confirmations = f .confirmations + 1 }
 
+-- a finder seen once
 abbrev pub fresh : Sighting → Finder
 fresh s = record { x = s .x; y = s .y; «module» = s .pitch; confirmations = 1 }
 
@@ -44,10 +45,11 @@ pub data Held : Type 0 where
   held : List Finder → Held
   over : Held
 
--- in a table of so many places
+-- after one more hit, in a table of so many places
 unfoldable pub merge : ℕ → List Finder → Sighting → Held
 merge limit fs s = cond (leb (length (place fs s)) limit) (held (place fs s)) over
 
+-- the same, where there may have been one finder too many before
 abbrev pub mergeNext : ℕ → Held → Sighting → Held
 mergeNext limit over s = over
 mergeNext limit (held fs) s = merge limit fs s

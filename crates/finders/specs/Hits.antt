@@ -20,6 +20,7 @@ unfoldable pub runs : (ℕ → Bool) → Bool → ℕ → ℕ → ℕ → List �
 runs f colour k i zero = k ∷ []
 runs f colour k i (suc n) = cond (Bool·beq (f i) colour) (runs f colour (suc k) (suc i) n) (k ∷ runs f (not colour) 1 (suc i) n)
 
+-- a hit with its centre at x, where the runs pass
 abbrev pub hitIf : Match → Float → List Hit
 hitIf (Module m) x = record { centre = x; pitch = m } ∷ []
 hitIf Nothing x = []

@@ -13,7 +13,8 @@ use Rattle.float.specs.Floats.{isNumber}
 no : {A : Type 0} → _≡_ {A = Bool} true false → A
 no h = let z : _≡_ {A = ℕ} 0 1 = cc in absurd (omega arith)
 
-and-both : (a b : Bool) → (a && b) ≡ true → (a ≡ true) × (b ≡ true)
+-- both tests pass
+pub and-both : (a b : Bool) → (a && b) ≡ true → (a ≡ true) × (b ≡ true)
 and-both true b h = (refl, h)
 and-both false b h = no (sym h)
 

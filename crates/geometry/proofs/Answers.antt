@@ -38,7 +38,7 @@ module _ (side r : Float) (n : ℕ) (e : r ≡ roundOf binary32 (over32 (minus32
   pub version-top : 31 ≤ n → 32 ≡ nearestVersion side
   version-top h = omega (arith, nearest-is)
 
-or-right : (a b : Bool) → b ≡ true → (a || b) ≡ true
+pub or-right : (a b : Bool) → b ≡ true → (a || b) ≡ true
 or-right true b h = refl
 or-right false b h = h
 

@@ -1,6 +1,6 @@
 -- The order of three finders and the rules on them, as the code's tests find them. Assumes nothing.
-use mathlib.Core.Path.{_≡_, refl}
-use mathlib.Core.Bool.{Bool, true, false, _||_}
+use mathlib.Core.Path.{_≡_}
+use mathlib.Core.Bool.{Bool, true, false}
 use lib.Ieee.{Float, lt, ne}
 use Rattle.float.specs.Floats.{isNumber, absOf, maxOf}
 use Rattle.float.specs.Steps.{plus32, minus32, times32, over32}
@@ -11,6 +11,7 @@ use Rattle.geometry.specs.declared.Finder.{Finder}
 use Rattle.geometry.specs.declared.Corners.{Corners}
 use Rattle.geometry.specs.declared.score.Score.{Score}
 use Rattle.geometry.specs.declared.score.Score.the-variants.{Out, Is}
+use Rattle.geometry.proofs.Answers.{or-right}
 
 -- ---- the order
 module _ (a b c : Finder) (ab bc ca : Float) (eab : ab ≡ span2Of a b) (ebc : bc ≡ span2Of b c) (eca : ca ≡ span2Of c a) (v : Bool) (e : v ≡ isLongest ab bc ca) where
@@ -28,10 +29,6 @@ module _ (a b c : Finder) (ab bc ca : Float) (eab : ab ≡ span2Of a b) (ebc : b
     longest-ca h = rw (← eab, ← ebc, ← eca, ← e, not-ab, ← g, h)
 
 -- ---- the corners' rules
-or-right : (p q : Bool) → q ≡ true → (p || q) ≡ true
-or-right true q h = refl
-or-right false q h = h
-
 module _ (f : Corners) (n1 n2 : Float) (e1 : n1 ≡ rightLeg f) (e2 : n2 ≡ downLeg f) where
   pub short-right : lt n1 f1 ≡ true → outByEdge f ≡ true
   unfolding outByEdge

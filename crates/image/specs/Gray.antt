@@ -27,14 +27,16 @@ abbrev pub among : List PixelFormat → ℕ → Found
 among [] byte = Nothing
 among (f ∷ fs) byte = cond (eqb byte (channelsOf f)) (Is f) (among fs byte)
 
+-- of those there are
 abbrev pub ofByte : ℕ → Found
 ofByte byte = among formats byte
 
--- 3: the byte of no format
+-- whether there is none
 abbrev pub isNothing : Found → Bool
 isNothing (Is f) = false
 isNothing Nothing = true
 
+-- 3: the byte of no format
 unfoldable pub unknownFormat : ℕ → Bool
 unknownFormat byte = isNothing (ofByte byte)
 

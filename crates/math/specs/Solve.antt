@@ -18,6 +18,7 @@ use Rattle.math.specs.declared.Solution.{Solution}
 abbrev pub Matrix : Type 0
 Matrix = ℕ → ℕ → Float
 
+-- x k is unknown k
 abbrev pub Vector : Type 0
 Vector = ℕ → Float
 
@@ -27,6 +28,7 @@ augmented n a b r k = cond (ltb k n) (getD a (r * n + k) nan) (getD b r nan)
 
 -- ---- row operations
 
+-- rows p and q exchanged
 unfoldable pub swapped : Matrix → ℕ → ℕ → Matrix
 swapped m p q r = m (cond (eqb r q) p (cond (eqb r p) q r))
 
@@ -89,6 +91,7 @@ unknowns n u (suc j) k =
 abbrev pub eight : Vector → List Float
 eight x = x 0 ∷ x 1 ∷ x 2 ∷ x 3 ∷ x 4 ∷ x 5 ∷ x 6 ∷ x 7 ∷ []
 
+-- no solution
 abbrev pub none : Solution
 none = record { found = false; x = replicate 8 d0 }
 

@@ -13,7 +13,7 @@ use Rattle.float.specs.Steps.{plus32, minus32, times32, over32, whole32}
 use Rattle.float.specs.Constants.{f0·7, f2, f3, f5, f6}
 use Rattle.lcr_core.specs.Outcome.{unless}
 use Rattle.binary.specs.Binary.{darkAt}
-use Rattle.binary.specs.Line.{row, column, run, runBack}
+use Rattle.binary.specs.Line.{row, column, run, runBack, runBefore, runAfter}
 use Rattle.binary.specs.Refusal.{bitsRefusal}
 use Rattle.transform.specs.Apply.{distance2Of}
 use Rattle.transform.specs.declared.Point.{Point}
@@ -51,6 +51,7 @@ columnEnd p r n = cond (ltb (posPart p + r) (negPart p)) (n - 1) (min (posPart p
 unfoldable pub radiusOf : Float → ℕ
 radiusOf m = posPart (toSigned 31 (maxOf (times32 m f5) f6))
 
+-- the columns and rows of a picture of w × h pixels that are searched for a marker predicted at p
 unfoldable pub windowOf : Point → Float → ℕ → ℕ → Window
 windowOf p m w h =
     let r = radiusOf m in
@@ -64,6 +65,7 @@ windowOf p m w h =
 unfoldable pub nearOne : Float → ℕ → Bool
 nearOne m n = le (absOf (minus32 (whole32 n) m)) (times32 m f0·7)
 
+-- `matches_alignment`: each of three runs is
 unfoldable pub matchesOf : Float → Runs → Bool
 matchesOf m r = nearOne m (r .before) && nearOne m (r .dark) && nearOne m (r .after)
 
@@ -72,13 +74,6 @@ unfoldable pub middleOf : Runs → Float
 middleOf r = plus32 (whole32 (r .start)) (over32 (whole32 (r .dark)) f2)
 
 -- ---- down a column
-
--- the run of a colour that ends before pixel i, and the one that starts at pixel i, on a line f of n pixels, each of limit pixels at most
-abbrev pub runBefore : Bool → (ℕ → Bool) → ℕ → ℕ → ℕ
-runBefore colour f limit i = runBack colour f i (min limit i)
-
-abbrev pub runAfter : Bool → (ℕ → Bool) → ℕ → ℕ → ℕ → ℕ
-runAfter colour f n limit i = run colour f i (min limit (n - i))
 
 -- the dark run about a dark pixel i, and the light ones before and after it
 unfoldable pub columnRuns : (ℕ → Bool) → ℕ → ℕ → ℕ → Runs
@@ -128,6 +123,7 @@ nearerOf p Missing (At s) = At s
 nearerOf p (At b) (At s) = cond (lt (distance2Of s p) (distance2Of b p)) (At s) (At b)
 
 module _ (bits : List ℕ) (w h first end : ℕ) (p : Point) (m : Float) where
+  -- the nearer of the nearest so far and the marker at pixel x of row y
   abbrev pub visit : ℕ → Marker → ℕ → Marker
   visit y best x = nearerOf p best (seenOf bits w h first end m y x)
 
@@ -143,5 +139,6 @@ nearestOf bits w h v p m = folded (rowNearest bits w h (v .first) (v .end) p m) 
 abbrev pub answer : ℕ → Marker → Located
 answer n m = record { refusal = n; marker = unless n Missing m }
 
+-- `find_alignment`
 unfoldable pub findOf : List ℕ → ℕ → ℕ → Point → Float → Located
 findOf bits w h p m = answer (bitsRefusal (length bits) w h) (nearestOf bits w h (windowOf p m w h) p m)

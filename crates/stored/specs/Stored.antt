@@ -19,10 +19,11 @@ use Rattle.stored.specs.declared.Stored.{Stored}
 abbrev pub headBytes : ℕ → ℕ → ℕ → List ℕ
 headBytes width height count = 1 ∷ (bytesLE 2 width ++ (bytesLE 2 height ++ (count ∷ [])))
 
--- a pair (x, y), and a pair (module, confirmations): each number four bytes, floats as their bits
+-- a pair (x, y): each number four bytes, floats as their bits
 abbrev pub placeBytes : Finder → List ℕ
 placeBytes f = bytesLE 4 (toBits binary32 (f .x)) ++ bytesLE 4 (toBits binary32 (f .y))
 
+-- a pair (module, confirmations)
 abbrev pub sizeBytes : Finder → List ℕ
 sizeBytes f = bytesLE 4 (toBits binary32 (f .«module»)) ++ bytesLE 4 (f .confirmations)
 
@@ -35,6 +36,7 @@ abbrev pub sizeOf : ℕ → ℕ
 sizeOf count = 6 + 16 * count
 
 -- ---- the reader
+-- the sides and the count, from the head
 abbrev pub widthIn : List ℕ → ℕ
 widthIn bytes = readLE 2 bytes 1
 
@@ -66,6 +68,7 @@ manyFinders count = ltb maxFinders count
 unfoldable pub badLength : ℕ → ℕ → Bool
 badLength len count = manyFinders count || not (eqb len (sizeOf count))
 
+-- 8, 1, 2, 8
 unfoldable pub readRefusal : List ℕ → ℕ
 readRefusal bytes =
     firstOf
@@ -75,6 +78,7 @@ readRefusal bytes =
     ∷ record { refuses = badLength (length bytes) (countIn bytes); number = 8 }
     ∷ [])
 
+-- `read_list`: what the list holds, or a refusal's number and zeros
 unfoldable pub readOf : List ℕ → Stored
 readOf bytes =
     let n = readRefusal bytes in
@@ -90,6 +94,7 @@ readOf bytes =
 unfoldable pub shortOutput : ℕ → ℕ → Bool
 shortOutput len count = ltb len (sizeOf count)
 
+-- 1, 2, 8, 5, for so many finders and len bytes of output
 abbrev pub writeChecks : ℕ → ℕ → ℕ → ℕ → List Check
 writeChecks count width height len =
     record { refuses = zeroSide width height; number = 1 }
@@ -98,6 +103,7 @@ writeChecks count width height len =
     ∷ record { refuses = shortOutput len count; number = 5 }
     ∷ []
 
+-- the refusal of a table's finders
 unfoldable pub writeRefusal : Finders → ℕ → ℕ → ℕ → ℕ
 writeRefusal t width height len = firstOf (writeChecks (t .count) width height len)
 
