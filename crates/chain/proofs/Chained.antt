@@ -11,7 +11,7 @@ use Rattle.lcr_core.proofs.Checks.{unless-refused, unless-done}
 use Rattle.candidates.specs.declared.Answer.{Answer}
 use Rattle.candidates.specs.declared.Detections.{Detections}
 use Rattle.candidates.specs.Candidates.{tableOf, answered, detectAnswer}
-use Rattle.finders.specs.Answer.{isOver, findRefusal}
+use Rattle.finders.specs.Answer.{isOver}
 use Rattle.finders.specs.Search.{found}
 use Rattle.stages.specs.Stages.{stagesRefusal}
 use Rattle.chain.specs.Chain.{chainAnswer, leftAfter}

@@ -10,7 +10,6 @@ use Rattle.lcr_core.specs.Outcome.{unless}
 use Rattle.lcr_core.proofs.Checks.{unless-done}
 use Rattle.little_endian.specs.Bytes.{put}
 use Rattle.candidates.specs.declared.Answer.{Answer}
-use Rattle.candidates.specs.declared.Detections.{Detections}
 use Rattle.candidates.specs.Candidates.{answered, detectAnswer}
 use Rattle.firmware.specs.Firmware.{firmwareBytes, firmwareSize}
 use Rattle.stages.specs.Stages.{stagesRefusal}

@@ -6,7 +6,7 @@ use native.Mathlib.Omega.{arith}
 use lib.ListN.{length, take, getD, set, length-append}
 use lib.Seq.{take-all}
 use lib.Ieee.{Float, nan, binary32, binary64, toBits}
-use Rattle.lists.specs.Lists.{tabulate, flatMap}
+use Rattle.lists.specs.Lists.{flatMap}
 use Rattle.lists.proofs.Tabulate.{length-tabulate, getD-tabulate}
 use Rattle.little_endian.specs.Bytes.{bytesLE, put}
 use Rattle.little_endian.proofs.Pieces.{put-then, length-flat, piece-more}
@@ -17,7 +17,7 @@ use Rattle.geometry.specs.declared.Marker.{Marker}
 use Rattle.geometry.specs.declared.Marker.the-variants.{At, Missing}
 use Rattle.candidates.specs.declared.Detection.{Detection}
 use Rattle.candidates.specs.declared.Detections.{Detections}
-use Rattle.firmware.specs.Firmware.{singleBytes, doubleBytes, finderBytes, markerBytes, numbersOf, transformBytes, detectionBytes, detectionSize, firmwareBytes, firmwareSize}
+use Rattle.firmware.specs.Firmware.{singleBytes, doubleBytes, finderBytes, markerBytes, numbersOf, transformBytes, detectionBytes, detectionSize, firmwareBytes}
 
 -- ---- lengths
 

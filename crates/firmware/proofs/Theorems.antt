@@ -1,13 +1,12 @@
 -- The bytes of at most three detections are 367, and those of missing ones are zero. Assumes nothing.
-use mathlib.Core.Path.{_≡_, refl, sym, ap, _∙_}
-use mathlib.Core.List.{List, [], _∷_, _++_}
+use mathlib.Core.Path.{_≡_, refl, ap, _∙_}
+use mathlib.Core.List.{List, _∷_, _++_}
 use Prim.Native.Nat.{ℕ, zero, suc, _+_, _-_, _*_, _%_, _≤_}
 use native.Mathlib.Omega.{arith}
-use lib.ListN.{length, replicate, length-append}
+use lib.ListN.{length, replicate}
 use lib.Ieee.{toBits, ofBits}
 use Rattle.lists.specs.Lists.{padded, tabulate, flatMap}
 use Rattle.lists.proofs.Folds.{flatMap-append}
-use Rattle.lists.proofs.Padded.{length-padded}
 use Rattle.little_endian.specs.Bytes.{bytesLE}
 use Rattle.little_endian.proofs.Pieces.{length-flat}
 use Rattle.candidates.specs.declared.Detection.{Detection}

@@ -1,5 +1,4 @@
 -- `chain::entry::plate_chain` meets its contract. Assumes nothing.
-use mathlib.Core.Path.{sym}
 use Rattle.lcr_core.proofs.Checks.{unless-refused}
 use Rattle.chain.proofs.EntryLaws.{entry-refused, untouched, entry-passed, entry-found}
 use borrow.Author.Needs.{needs}
