@@ -14,10 +14,11 @@ use Rattle.geometry.specs.declared.Marker.the-variants.{At, Missing}
 use Rattle.candidates.specs.declared.Detection.{Detection}
 use Rattle.candidates.specs.declared.Detections.{Detections}
 
--- a float by its bits: four bytes of an f32, eight of an f64
+-- an f32 by its bits, in four bytes
 abbrev pub singleBytes : Float → List ℕ
 singleBytes x = bytesLE 4 (toBits binary32 x)
 
+-- an f64 by its bits, in eight bytes
 abbrev pub doubleBytes : Float → List ℕ
 doubleBytes x = bytesLE 8 (toBits binary64 x)
 
@@ -34,6 +35,7 @@ markerBytes Missing = 0 ∷ (bytesLE 4 0 ++ bytesLE 4 0)
 abbrev pub numbersOf : Transform → List Float
 numbersOf t = tabulate 8 (λ i. getD (t .m) i nan)
 
+-- eight bytes each
 abbrev pub transformBytes : Transform → List ℕ
 transformBytes t = flatMap doubleBytes (numbersOf t)
 
@@ -43,6 +45,7 @@ detectionBytes d =
     let c = d .finders in
     finderBytes (c .tl) ++ (finderBytes (c .tr) ++ (finderBytes (c .bl) ++ ((d .version .0 ∷ []) ++ (markerBytes (d .marker) ++ transformBytes (d .transform)))))
 
+-- its bytes
 abbrev pub detectionSize : ℕ
 detectionSize = 122
 
@@ -50,5 +53,6 @@ detectionSize = 122
 unfoldable pub firmwareBytes : Detections → List ℕ
 firmwareBytes t = bytesLE 1 (t .count) ++ flatMap detectionBytes (t .at)
 
+-- all bytes: 367
 abbrev pub firmwareSize : ℕ
 firmwareSize = 1 + 3 * detectionSize
