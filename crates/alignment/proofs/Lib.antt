@@ -6,4 +6,7 @@ pub mod Order
 pub mod First
 pub mod NumberLaws
 pub mod Sweeps
+pub mod Raised
+pub mod Halves
+pub mod Colours
 pub mod Theorems

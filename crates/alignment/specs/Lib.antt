@@ -1,3 +1,4 @@
 pub mod Alignment
 pub mod Template
 pub mod Counting
+pub mod Known

@@ -6,15 +6,16 @@ use geometry::build_transform;
 use lcr_core::number;
 use lcr_core::version::Checked;
 use lcr_core::version::Version;
+use matching::centre;
+use matching::matched;
 use rows::Located;
 use rows::find_alignment;
-use template::centre;
-use template::matched;
 use transform::Transform;
 ghost use mathlib.Core.Path.{_≡_};
 ghost use Prim.Native.Nat.{_≤_};
 ghost use Rattle.alignment.specs.Alignment.{alignmentRefusal, matchOf, searchedOf, locatedOf, locateOf, isFound, rebuiltOf, refineOf};
 
+mod matching;
 mod template;
 
 // A transform with the marker that it is built through, if there is one; or a refusal, and then zeros and none.

@@ -1,16 +1,16 @@
 // The template match: the site at which most of the marker's 25 modules have their colour.
 use binary::dark;
 use float::to_u32;
-use geometry::Marker;
-use lcr_core::version::Version;
 use transform::Point;
 use transform::Transform;
 ghost use mathlib.Core.Path.{_≡_};
 ghost use Prim.Native.Nat.{_+_, _*_, _≤_, _<_};
 ghost use Rattle.lists.specs.Lists.{dist};
+ghost use Rattle.float.specs.Steps.{plus32};
 ghost use Rattle.transform.specs.Apply.{applied};
-ghost use Rattle.alignment.specs.Template.{outsideOf, pixelAt, tapped, moduleDark, wantDark, less, agree, scoreOf, siteAt, betterOf, sweepBest, bestOf, centreOf, matchedOf};
+ghost use Rattle.alignment.specs.Template.{outsideOf, pixelAt, tapped, moduleDark, wantDark, less, agree, scoreOf, siteAt, betterOf, sweepBest};
 ghost use Rattle.alignment.specs.Counting.{Counted, UpTo, leastOf};
+ghost use Rattle.alignment.specs.Known.{KnownAt, Known};
 
 // How many taps of a module lie in the picture, and how many of these are dark.
 pub struct Votes {
@@ -73,7 +73,7 @@ fn tap(bits: &[u8], width: u16, height: u16, t: Transform, x: f32, y: f32, v: Vo
 }
 
 // Whether most of the five taps that lie in the picture are dark. Where the first three agree, they decide.
-fn module_is_dark(bits: &[u8], width: u16, height: u16, t: Transform, x: f32, y: f32) -> bool
+pub fn module_is_dark(bits: &[u8], width: u16, height: u16, t: Transform, x: f32, y: f32) -> bool
     ensures { λ r. ⌜ r ≡ moduleDark (now (bits .entry)) width height t x y ⌝ }
 {
     let none = Votes { seen: 0, dark: 0 };
@@ -119,19 +119,63 @@ fn wants_dark(i: u8, j: u8) -> bool
     far != 1
 }
 
+// Whether the module in column i and row j of the marker centred at (x, y) is dark. A table that is not empty has its colour.
+fn sees_dark(
+    bits: &[u8],
+    width: u16,
+    height: u16,
+    t: Transform,
+    x: f32,
+    y: f32,
+    i: u8,
+    j: u8,
+    colours: &[u8],
+    at: u16,
+) -> bool
+    requires { ⌜ (i < 5) × (j < 5) × KnownAt (now bits) width height t x y (now colours) at ⌝ }
+    ensures { λ r. ⌜ r ≡ moduleDark (now (bits .entry)) width height t (plus32 x (less i 2)) (plus32 y (less j 2)) ⌝ }
+{
+    if colours.len() == 0 {
+        return module_is_dark(bits, width, height, t, x + offset(i, 2), y + offset(j, 2));
+    }
+    colours[at as usize + 2 * i as usize + 42 * j as usize] == 1
+}
+
 // 1 where module k of the marker centred at (x, y) has its colour.
-fn agrees(bits: &[u8], width: u16, height: u16, t: Transform, x: f32, y: f32, k: u8) -> u8
+fn agrees(
+    bits: &[u8],
+    width: u16,
+    height: u16,
+    t: Transform,
+    x: f32,
+    y: f32,
+    k: u8,
+    colours: &[u8],
+    at: u16,
+) -> u8
+    requires { ⌜ (k < 25) × KnownAt (now bits) width height t x y (now colours) at ⌝ }
     ensures { λ r. ⌜ r ≡ agree (now (bits .entry)) width height t x y k ⌝ }
     ensures { λ r. ⌜ r ≤ 1 ⌝ }
 {
     let i = k % 5;
     let j = k / 5;
-    let seen = module_is_dark(bits, width, height, t, x + offset(i, 2), y + offset(j, 2));
+    let seen = sees_dark(bits, width, height, t, x, y, i, j, colours, at);
     if seen == wants_dark(i, j) { 1 } else { 0 }
 }
 
 // How many of the 25 modules of a marker centred at (x, y) have their colour. It stops where `least` is out of reach.
-fn score(bits: &[u8], width: u16, height: u16, t: Transform, x: f32, y: f32, least: u16) -> u8
+fn score(
+    bits: &[u8],
+    width: u16,
+    height: u16,
+    t: Transform,
+    x: f32,
+    y: f32,
+    least: u16,
+    colours: &[u8],
+    at: u16,
+) -> u8
+    requires { ⌜ KnownAt (now bits) width height t x y (now colours) at ⌝ }
     ensures { λ r. ⌜ UpTo least (scoreOf (now (bits .entry)) width height t x y) r ⌝ }
 {
     let mut n: u8 = 0;
@@ -140,7 +184,7 @@ fn score(bits: &[u8], width: u16, height: u16, t: Transform, x: f32, y: f32, lea
         if ((n + (25 - k)) as u16) < least {
             return n;
         }
-        n += agrees(bits, width, height, t, x, y, k);
+        n += agrees(bits, width, height, t, x, y, k, colours, at);
         k += 1;
     }
     n
@@ -167,20 +211,23 @@ fn visit(
     x: f32,
     y: f32,
     best: Site,
+    colours: &[u8],
+    at: u16,
 ) -> Site
+    requires { ⌜ KnownAt (now bits) width height t (plus32 c x) (plus32 c y) (now colours) at ⌝ }
     ensures { λ r. ⌜ r ≡ betterOf best (siteAt (now (bits .entry)) width height t c x y) ⌝ }
 {
     let dist = x * x + y * y;
     let least = needed(best, dist);
-    let score = score(bits, width, height, t, c + x, c + y, least);
+    let score = score(bits, width, height, t, c + x, c + y, least, colours, at);
     if (score as u16) < least {
         return best;
     }
     Site { score, dist, x, y }
 }
 
-// m × m sites, `step` apart, about the best so far.
-fn sweep(
+// m × m sites, `step` apart, about the best so far, with a table of their modules' colours or an empty one.
+pub fn sweep(
     bits: &[u8],
     width: u16,
     height: u16,
@@ -189,8 +236,9 @@ fn sweep(
     m: u8,
     step: f32,
     best: Site,
+    colours: &[u8],
 ) -> Site
-    requires { ⌜ (0 < m) × (m ≤ 13) ⌝ }
+    requires { ⌜ (0 < m) × (m ≤ 13) × Known (now bits) width height t c m step best (now colours) ⌝ }
     ensures { λ r. ⌜ r ≡ sweepBest (now (bits .entry)) width height t c m step best ⌝ }
 {
     let x = best.x;
@@ -201,45 +249,9 @@ fn sweep(
     while k < end {
         let dx = offset(k % m, m / 2) * step;
         let dy = offset(k / m, m / 2) * step;
-        b = visit(bits, width, height, t, c, x + dx, y + dy, b);
+        let at = (k % m) as u16 + 21 * (k / m) as u16;
+        b = visit(bits, width, height, t, c, x + dx, y + dy, b, colours, at);
         k += 1;
     }
     b
-}
-
-// The three sweeps.
-fn best_site(bits: &[u8], width: u16, height: u16, t: Transform, c: f32) -> Site
-    ensures { λ r. ⌜ r ≡ bestOf (now (bits .entry)) width height t c ⌝ }
-{
-    let none = Site {
-        score: 0,
-        dist: 1.0 / 0.0,
-        x: 0.0,
-        y: 0.0,
-    };
-    let a = sweep(bits, width, height, t, c, 13, 0.5, none);
-    let b = sweep(bits, width, height, t, c, 9, 0.125, a);
-    sweep(bits, width, height, t, c, 9, 0.03125, b)
-}
-
-// The marker's centre in modules, which is its x and its y.
-pub fn centre(version: u8) -> f32
-    ensures { λ r. ⌜ r ≡ centreOf version ⌝ }
-{
-    Version(version).side() as f32 - 6.5
-}
-
-// The marker at the best site, where 23 modules agree.
-pub fn matched(bits: &[u8], width: u16, height: u16, t: Transform, version: u8) -> Marker
-    ensures { λ r. ⌜ r ≡ matchedOf (now (bits .entry)) width height t version ⌝ }
-{
-    if version < 2 {
-        return Marker::Missing;
-    }
-    let c = centre(version);
-    let s = best_site(bits, width, height, t, c);
-    if s.score < 23 {
-        return Marker::Missing;
-    }
-    Marker::At(t.apply(c + s.x, c + s.y))
 }

@@ -13,10 +13,10 @@ use Rattle.alignment.proofs.template.score.Statement.{statement}
 use Rattle.alignment.proofs.template.score.Tie as tie
 
 abbrev Inv-loop : tie.InvT-loop
-Inv-loop bits width height t x y least n₀ k₀ n k = (k ≤ 25) × (n ≤ k) × (n ≡ sumTo k (agree bits width height t x y))
+Inv-loop bits width height t x y least colours at n₀ k₀ n k = (k ≤ 25) × (n ≤ k) × (n ≡ sumTo k (agree bits width height t x y))
 
 abbrev μ-loop : tie.MeasureT-loop
-μ-loop bits width height t x y least n₀ k₀ n k = 25 - k
+μ-loop bits width height t x y least colours at n₀ k₀ n k = 25 - k
 
 loop-holds : tie.Need-loop-holds Inv-loop μ-loop
 unfolding sumTo
@@ -47,7 +47,7 @@ loop-less : tie.Need-loop-less Inv-loop μ-loop
 loop-less c = omega arith
 
 loop-again : tie.Need-loop-again Inv-loop μ-loop
-loop-again c = let l = c .before .before .before .loop in let a = c .before .before .before .before .before .args in (omega arith, omega (arith, c .agrees .ensures .1, l .inv .1), ap (λ z. l .n + z) (c .agrees .ensures .0) ∙ sum-more (agree (now (a .bits)) (a .width) (a .height) (a .t) (a .x) (a .y)) (l .k) (l .n) (l .inv .2))
+loop-again c = let l = c .before .before .before .loop in let a = c .before .before .before .before .before .before .args in (omega arith, omega (arith, c .agrees .ensures .1, l .inv .1), ap (λ z. l .n + z) (c .agrees .ensures .0) ∙ sum-more (agree (now (a .bits)) (a .width) (a .height) (a .t) (a .x) (a .y)) (l .k) (l .n) (l .inv .2))
 
 returns-2 : tie.Need-returns-2 Inv-loop μ-loop
 unfolding scoreOf

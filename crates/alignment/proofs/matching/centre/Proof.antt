@@ -1,8 +1,8 @@
--- `alignment::template::centre` meets its contract. Assumes nothing.
+-- `alignment::matching::centre` meets its contract. Assumes nothing.
 use Rattle.alignment.specs.Template.{centreOf}
 use borrow.Author.Needs.{needs}
-use Rattle.alignment.proofs.template.centre.Statement.{statement}
-use Rattle.alignment.proofs.template.centre.Tie as tie
+use Rattle.alignment.proofs.matching.centre.Statement.{statement}
+use Rattle.alignment.proofs.matching.centre.Tie as tie
 
 side-requires : tie.Need-side-requires
 side-requires c κs = search needs
