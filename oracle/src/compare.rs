@@ -5,7 +5,7 @@ use crate::answers::{Source, answer, chain_of};
 use crate::cases::{Reach, case, chain_case};
 use crate::coverage::Coverage;
 use crate::listing;
-use crate::record::{CHAIN_FROM_C, FUNCTIONS, Record, lent};
+use crate::record::{CHAIN_FROM_C, FUNCTIONS, Record, lent, program_of};
 use crate::rng::Rng;
 use crate::rules::detection_bytes;
 use std::io::{BufRead, BufReader, Write};
@@ -95,13 +95,9 @@ pub fn hex(bytes: &[u8]) -> String {
     bytes.iter().flat_map(two).collect()
 }
 
-/// The program for a group's records: REPLAY, target/bin/replay_GROUP or target/bin/replay.
-fn program(group: &str) -> Option<String> {
-    if let Ok(command) = std::env::var("REPLAY") {
-        return Some(command);
-    }
-    let paths = [format!("target/bin/replay_{group}"), "target/bin/replay".to_string()];
-    paths.into_iter().find(|p| std::path::Path::new(p).exists())
+/// The command for a group's records: REPLAY, or its program in target/bin.
+fn program(group: &str) -> String {
+    std::env::var("REPLAY").unwrap_or_else(|_| format!("target/bin/{}", program_of(group)))
 }
 
 /// Keeps a record whose answer differs, so that it can be fed again.
@@ -116,7 +112,7 @@ fn keep(row: &Row, record: &Record, expected: &str, got: &str) {
 
 fn replayed(function: u8, name: &str, group: &str, seed: u64, cases: u64, met: &mut Coverage) -> Row {
     let mut row = Row::new(name);
-    let Some(mut replay) = program(group).and_then(|p| Replay::start(&p)) else {
+    let Some(mut replay) = Replay::start(&program(group)) else {
         row.unanswered = cases;
         return row;
     };

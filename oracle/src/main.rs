@@ -49,14 +49,12 @@ fn by_clock() -> u64 {
     now.map_or(1, |t| t.as_nanos() as u64 % 1_000_000_007)
 }
 
-/// FOLDER/GROUP/stdin has the records of a group, FOLDER/GROUP/stdout the answers.
+/// FOLDER/PROGRAM/stdin has the records of a replay program, FOLDER/PROGRAM/stdout the answers.
 fn vectors(folder: &str, seed: u64) {
     println!("seed {seed}");
-    let mut groups: Vec<&str> = record::FUNCTIONS.iter().map(|f| f.2).collect();
-    groups.dedup();
-    for group in groups {
+    for program in ["replay", "replay_image", "replay_candidates", "replay_chain"] {
         let (mut records, mut lines) = (Vec::new(), String::new());
-        for (function, name, _) in record::FUNCTIONS.iter().filter(|f| f.2 == group) {
+        for (function, name, _) in record::FUNCTIONS.iter().filter(|f| record::program_of(f.2) == program) {
             let before = records.len();
             let mut rng = rng::Rng::new(seed ^ (*function as u64) << 32);
             let cases = Reach::Sample.cases(*function);
@@ -66,9 +64,9 @@ fn vectors(folder: &str, seed: u64) {
                 lines += &compare::hex(&answers::answer(&record).bytes);
                 lines.push('\n');
             }
-            println!("{group}: {name}, {cases} records, {} bytes", records.len() - before);
+            println!("{program}: {name}, {cases} records, {} bytes", records.len() - before);
         }
-        let folder = std::path::Path::new(folder).join(group);
+        let folder = std::path::Path::new(folder).join(program);
         std::fs::create_dir_all(&folder).expect("the folder");
         std::fs::write(folder.join("stdin"), records).expect("stdin");
         std::fs::write(folder.join("stdout"), lines).expect("stdout");

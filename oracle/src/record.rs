@@ -3,7 +3,7 @@
 use lcr_decode::detect::{Detection, Finder};
 use lcr_decode::transform::{numbers_of, transform_of};
 
-/// The functions by number, with the group whose stored sample they are in.
+/// The functions by number, with their group.
 pub const FUNCTIONS: [(u8, &str, &str); 33] = [
     (1, "Version::new", "core"),
     (2, "Version::side", "core"),
@@ -39,6 +39,16 @@ pub const FUNCTIONS: [(u8, &str, &str); 33] = [
     (82, "detect", "candidates"),
     (96, "whole chain", "chain"),
 ];
+
+/// The program that replays a group's records (docs/REPLAY.md).
+pub fn program_of(group: &str) -> &'static str {
+    match group {
+        "image" => "replay_image",
+        "alignment" | "candidates" => "replay_candidates",
+        "chain" => "replay_chain",
+        _ => "replay",
+    }
+}
 
 /// The whole chain by its C entry has no record: the static library is linked.
 pub const CHAIN_FROM_C: &str = "whole chain, C entry";

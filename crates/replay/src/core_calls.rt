@@ -3,6 +3,7 @@ use lcr_core::color::Srgb8;
 use lcr_core::version::Checked;
 use lcr_core::version::Found;
 use lcr_core::version::Version;
+use record::values;
 
 fn version(function: u8, p: &[u8], out: &mut [u8]) -> usize {
     match Version::new(little_endian::get8(p, 0)) {
@@ -68,7 +69,7 @@ pub fn answer(function: u8, p: &[u8], out: &mut [u8]) -> usize {
             4
         }
         8 => {
-            record::put_float(out, 0, colour(p).rec709_luma());
+            values::put_float(out, 0, colour(p).rec709_luma());
             4
         }
         _ => 0,

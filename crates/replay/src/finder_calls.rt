@@ -1,36 +1,48 @@
-// Record 32: the finder search.
-use super::geometry_calls::put_finder;
-use finders::Finders;
-
-fn put_finders(out: &mut [u8], t: Finders) -> usize {
-    let count = t.count;
-    let mut i = 0;
-    while i < 128 {
-        if count <= i {
-            return 2 + 16 * i;
-        }
-        let f = t.table[i];
-        put_finder(out, (2 + 16 * i) as u16, f);
-        i += 1;
-    }
-    2050
-}
+// Records 32 to 34: the finder search and the stored list.
+use record::slices;
+use record::values;
 
 fn find_finders(p: &[u8], out: &mut [u8]) -> usize {
     let r = finders::find_finders(
-        record::rest(p, 8),
+        slices::rest(p, 8),
         little_endian::get32(p, 0),
         little_endian::get32(p, 4),
     );
     little_endian::put8(out, 0, r.refusal);
     let t = r.finders;
-    little_endian::put8(out, 1, (t.count % 256) as u8);
-    put_finders(out, t)
+    values::put_finders(out, 1, t)
+}
+
+fn read_list(p: &[u8], out: &mut [u8]) -> usize {
+    let r = stored::read_list(p);
+    little_endian::put8(out, 0, r.refusal);
+    little_endian::put32(out, 1, r.width as u32);
+    little_endian::put32(out, 5, r.height as u32);
+    let t = r.finders;
+    values::put_finders(out, 9, t)
+}
+
+fn write_list(p: &[u8], out: &mut [u8]) -> usize {
+    if !slices::lendable(p, 8, 1) {
+        return 0;
+    }
+    let mut list = [0u8; slices::LONGEST];
+    let r = stored::write_list(
+        values::finders_at(p, 16, little_endian::get32(p, 12)),
+        little_endian::get32(p, 0),
+        little_endian::get32(p, 4),
+        slices::lent(&mut list, p, 8),
+    );
+    little_endian::put8(out, 0, r.refusal);
+    slices::put_lent(out, 1, &list, p, 8);
+    13
 }
 
 pub fn answer(function: u8, p: &[u8], out: &mut [u8]) -> usize {
     match function {
         32 => find_finders(p, out),
+        33 => read_list(p, out),
+        34 => write_list(p, out),
         _ => 0,
     }
 }

@@ -54,7 +54,11 @@ fn lent_case(i: u64, rng: &mut Rng, reach: Reach) -> Record {
             let at = rng.below(list.len() as u64 + 1) as usize;
             list.insert(at, any_finder(rng));
         }
-        3 if rng.one_in(4) => (0..rng.whole(100, 300)).for_each(|_| list.push(any_finder(rng))),
+        3 if rng.one_in(4) => {
+            let long = rng.whole(100, 300) as usize;
+            let length = rng.pick(&[127, 128, 129, long]);
+            list.resize_with(length, || any_finder(rng));
+        }
         4 if !list.is_empty() => {
             let at = rng.below(list.len() as u64) as usize;
             let odd = rng.any_f32();

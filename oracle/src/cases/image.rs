@@ -181,17 +181,22 @@ pub struct ChainCase {
     pub room: [usize; 8],
 }
 
+/// Finders in a square, so that several triples make a plate.
+fn few_finders(rng: &mut Rng) -> Gray {
+    finder_grid(rng.pick(&[3, 4, 4, 6, 9]), rng.whole(2, 3), 2, rng.whole(14, 22))
+}
+
 pub fn chain_case(i: u64, rng: &mut Rng, limit: usize, most: usize) -> ChainCase {
+    let grid = i % 128 == 2;
     let gray = match i % 4 {
-        _ if i % 256 == 2 => {
-            finder_grid([129, 128, 130, 127][(i / 256 % 4) as usize], 12, 2, rng.whole(3, 5))
-        }
+        _ if grid => finder_grid([129, 128, 127, 130][(i / 128 % 4) as usize], 12, 2, rng.whole(3, 5)),
+        _ if i % 64 == 10 => few_finders(rng),
         _ if i % 256 == 4 => longest(rng),
         1 | 3 if limit < 2_000 => clear_plate(rng, 1, 2.4),
         1 | 3 => clear_plate(rng, limit as u32 / 9_000 + 1, 3.5),
         _ => scene(rng, limit),
     };
-    let spoilt = i % 6 == 0;
+    let spoilt = i % 6 == 0 && !grid;
     let (width, height, stride, format, picture) = coloured(rng, &gray, most, spoilt);
     let mut room = [lendable(blocks(width, height)); 8];
     room[0] = lendable(pixels(width, height));

@@ -1,0 +1,36 @@
+// Runs calls from standard input and prints their answers, a line each (docs/REPLAY.md): records 64 to 67 and 80 to 82.
+use record::slices;
+
+mod alignment_calls;
+mod candidate_calls;
+
+// The answer's bytes to one call, and how many they are: none for a function that is not known.
+fn answer(function: u8, p: &[u8], out: &mut [u8]) -> usize {
+    if function < 80 {
+        return alignment_calls::answer(function, p, out);
+    }
+    candidate_calls::answer(function, p, out)
+}
+
+// Reads a record and answers it; false where the input ends.
+fn step(payload: &mut [u8; slices::LONGEST]) -> bool {
+    let c = record::read(payload);
+    if !c.read {
+        return false;
+    }
+    let mut out = [0u8; record::ANSWER];
+    let n = answer(c.function, slices::front(payload, c.len), &mut out);
+    record::print_line(&out, n)
+}
+
+// All records, up to four thousand million.
+fn main() {
+    let mut payload = [0u8; slices::LONGEST];
+    let mut records: u32 = 0;
+    while records < 4000000000 {
+        if !step(&mut payload) {
+            return;
+        }
+        records += 1;
+    }
+}
