@@ -43,21 +43,31 @@ fn timed<T>(call: impl FnOnce() -> T) -> f64 {
     now() - start
 }
 
+/// Puts a plate into a picture, its top left corner at x0, y0.
+fn paste(out: &mut Gray, plate: &Gray, x0: u32, y0: u32) {
+    for (i, v) in plate.pixels.iter().enumerate() {
+        let (x, y) = (x0 + i as u32 % plate.width, y0 + i as u32 / plate.width);
+        if x < out.width && y < out.height {
+            out.pixels[(y * out.width + x) as usize] = *v;
+        }
+    }
+}
+
+/// Paper alone.
+fn blank(rng: &mut Rng, width: u32, height: u32) -> Gray {
+    let pixels = (0..width * height).map(|_| 190 + rng.below(13) as u8).collect();
+    Gray { width, height, pixels }
+}
+
 /// Paper with three plates on it.
 fn scene(rng: &mut Rng, width: u32, height: u32) -> Gray {
-    let mut out = Gray::filled(width, height, 0);
-    out.pixels.iter_mut().for_each(|v| *v = 190 + rng.below(13) as u8);
+    let mut out = blank(rng, width, height);
     let pitch = (width.min(height) as f64 / 160.0).clamp(3.0, 12.0);
     for (k, (version, turn)) in [(2, 0.0), (4, 5.0), (7, -12.0)].into_iter().enumerate() {
         let view = View { pitch, turn, tilt: (0.05, 0.03), blur: 1, noise: 6.0, ..View::PLAIN };
         let plate = render(rng, version, &view);
         let (x0, y0) = (width / 24 + (k as u32 % 2) * width / 2, height / 24 + (k as u32 / 2) * height / 2);
-        for (i, v) in plate.pixels.iter().enumerate() {
-            let (x, y) = (x0 + i as u32 % plate.width, y0 + i as u32 / plate.width);
-            if x < width && y < height {
-                out.pixels[(y * width + x) as usize] = *v;
-            }
-        }
+        paste(&mut out, &plate, x0, y0);
     }
     out
 }
@@ -70,29 +80,28 @@ fn texture(rng: &mut Rng, width: u32, height: u32) -> Gray {
     Gray { width, height, pixels }
 }
 
+/// A plate at an angle, which the template match has to look for.
+fn turned(rng: &mut Rng, width: u32, height: u32) -> Gray {
+    let mut out = Gray::filled(width, height, 230);
+    let pitch = (width.min(height) as f64 / 80.0).clamp(3.0, 12.0);
+    let view = View { pitch, turn: 40.0, tilt: (0.3, 0.2), blur: 1, noise: 6.0, ..View::PLAIN };
+    paste(&mut out, &render(rng, 6, &view), 0, 0);
+    out
+}
+
 /// A stage's times: the Rust's, ours, both in milliseconds.
 struct Line {
     name: &'static str,
     rust: f64,
-    ours: Option<f64>,
+    ours: f64,
 }
 
 /// Runs both by turns.
-fn line(
-    name: &'static str,
-    turns: usize,
-    rust: &dyn Fn(),
-    ours: Option<Stage>,
-    p: &Picture,
-    l: &mut Lent,
-) -> Line {
-    let mut out = Line { name, rust: f64::INFINITY, ours: ours.map(|_| f64::INFINITY) };
+fn line(name: &'static str, turns: usize, rust: &dyn Fn(), ours: Stage, p: &Picture, l: &mut Lent) -> Line {
+    let mut out = Line { name, rust: f64::INFINITY, ours: f64::INFINITY };
     for _ in 0..turns {
         out.rust = out.rust.min(timed(rust));
-        if let Some(stage) = ours {
-            let time = timed(|| assert_eq!(stage(p, l), 0, "{name} refused"));
-            out.ours = out.ours.map(|t| t.min(time));
-        }
+        out.ours = out.ours.min(timed(|| assert_eq!(ours(p, l), 0, "{name} refused")));
     }
     out
 }
@@ -113,11 +122,7 @@ fn measure(gray: &Gray, rng: &mut Rng) -> Vec<Line> {
     let mut lines = Vec::new();
     lines.push(line("gray, Gray8", turns, &|| drop(plain_view.gray_buffer()), stages::GRAY, &plain, &mut l));
     lines.push(line("gray, Rgb8", turns, &|| drop(view.gray_buffer()), stages::GRAY, &rgb, &mut l));
-    let same = |ours: Option<Stage>, left: &[u8], rust: &[u8]| {
-        assert!(ours.is_none() || left == rust, "results differ")
-    };
-    same(stages::GRAY, &l.gray, &luma);
-    l.gray.copy_from_slice(&luma);
+    assert!(l.gray == luma, "gray differs");
     lines.push(line(
         "binarize",
         turns,
@@ -126,11 +131,9 @@ fn measure(gray: &Gray, rng: &mut Rng) -> Vec<Line> {
         &rgb,
         &mut l,
     ));
-    same(stages::BINARIZE, &l.bits, bits_of(&bin));
-    l.bits.copy_from_slice(bits_of(&bin));
+    assert!(l.bits == bits_of(&bin), "bits differ");
     lines.push(line("denoised", turns, &|| drop(bin.denoised()), stages::DENOISED, &rgb, &mut l));
-    same(stages::DENOISED, &l.denoised, bits_of(&clean));
-    l.denoised.copy_from_slice(bits_of(&clean));
+    assert!(l.denoised == bits_of(&clean), "denoised bits differ");
     lines.push(line("find_finders", turns, &|| drop(find_finders(&clean)), stages::FINDERS, &rgb, &mut l));
     lines.push(line(
         "detect_candidates",
@@ -145,22 +148,19 @@ fn measure(gray: &Gray, rng: &mut Rng) -> Vec<Line> {
         drop(detect_candidates(&bin.denoised()));
     };
     lines.push(line("whole chain, Rgb8", turns, &whole, stages::CHAIN, &rgb, &mut l));
-    println!(
-        "{width} x {height}: {} finders, {} detections",
-        find_finders(&clean).len(),
-        detect_candidates(&clean).len()
+    let (finders, detections) = (find_finders(&clean).len(), detect_candidates(&clean).len());
+    assert!(
+        l.list[5] as usize == finders && l.detections[0] as usize == detections,
+        "finders or detections differ"
     );
+    println!("{width} x {height}: {finders} finders, {detections} detections");
     lines
 }
 
 fn print(lines: &[Line]) {
-    println!("  {:20}{:>12}{:>12}{:>9}", "stage", "Rust ms", "Rattle ms", "ratio");
+    println!("  {:20}{:>12}{:>12}{:>16}", "stage", "Rust ms", "Rattle ms", "times as fast");
     for l in lines {
-        let (ours, ratio) = match l.ours {
-            Some(t) => (format!("{t:.3}"), format!("{:.2}", t / l.rust)),
-            None => ("-".to_string(), "-".to_string()),
-        };
-        println!("  {:20}{:>12.3}{ours:>12}{ratio:>9}", l.name, l.rust);
+        println!("  {:20}{:>12.3}{:>12.3}{:>16.2}", l.name, l.rust, l.ours, l.rust / l.ours);
     }
     println!();
 }
@@ -175,9 +175,10 @@ fn print_growth(sizes: &[(u32, Vec<Line>)]) {
         let step = |w: &[(u32, Vec<Line>)]| {
             let (a, b) = (&w[0].1[k], &w[1].1[k]);
             let by = (w[1].0 as f64 / w[0].0 as f64).ln();
-            let ours =
-                a.ours.zip(b.ours).map_or("-".to_string(), |(a, b)| format!("{:.2}", (b / a).ln() / by));
-            format!("{:>16}", format!("{:.2} / {ours}", (b.rust / a.rust).ln() / by))
+            format!(
+                "{:>16}",
+                format!("{:.2} / {:.2}", (b.rust / a.rust).ln() / by, (b.ours / a.ours).ln() / by)
+            )
         };
         println!("  {:20}{}", sizes[0].1[k].name, sizes.windows(2).map(step).collect::<String>());
     }
@@ -185,8 +186,12 @@ fn print_growth(sizes: &[(u32, Vec<Line>)]) {
 }
 
 fn main() {
-    let pictures: [(&str, fn(&mut Rng, u32, u32) -> Gray); 2] =
-        [("Paper with three plates", scene), ("Squares of three pixels, with noise", texture)];
+    let pictures: [(&str, fn(&mut Rng, u32, u32) -> Gray); 4] = [
+        ("Paper with three plates", scene),
+        ("A plate at an angle", turned),
+        ("Squares of three pixels, with noise", texture),
+        ("Paper", blank),
+    ];
     for (name, picture) in pictures {
         println!("{name}\n");
         let mut squares = Vec::new();

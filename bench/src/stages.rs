@@ -1,9 +1,6 @@
-//! The C entries of the static libraries: the one place that declares them. Numbers go as
-//! themselves, a byte slice as its pointer and its length. `plate_chain` is in libchain.a;
-//! the stages alone are in libstages.a. An entry whose library is not linked is none.
-#![cfg_attr(not(all(chain, stages)), allow(dead_code))]
+//! The C entries of the static libraries: the one place that declares them. Numbers go as themselves, a byte slice as its
+//! pointer and its length. `plate_chain` is in libchain.a, the stages alone are in libentries.a.
 
-#[cfg(stages)]
 unsafe extern "C" {
     fn plate_gray(
         picture: *const u8,
@@ -59,10 +56,6 @@ unsafe extern "C" {
         detections: *mut u8,
         detections_len: usize,
     ) -> u8;
-}
-
-#[cfg(chain)]
-unsafe extern "C" {
     fn plate_chain(
         picture: *const u8,
         picture_len: usize,
@@ -138,93 +131,67 @@ pub struct Picture<'a> {
 /// A stage: takes what the earlier ones left and gives the refusal number.
 pub type Stage = fn(&Picture, &mut Lent) -> u8;
 
-#[cfg(stages)]
-mod linked {
-    use super::*;
+pub const GRAY: Stage = |p, l| unsafe {
+    plate_gray(
+        p.bytes.as_ptr(),
+        p.bytes.len(),
+        p.width,
+        p.height,
+        p.stride,
+        p.format,
+        l.gray.as_mut_ptr(),
+        l.gray.len(),
+    )
+};
 
-    pub const GRAY: Option<Stage> = Some(|p, l| unsafe {
-        plate_gray(
-            p.bytes.as_ptr(),
-            p.bytes.len(),
-            p.width,
-            p.height,
-            p.stride,
-            p.format,
-            l.gray.as_mut_ptr(),
-            l.gray.len(),
-        )
-    });
+pub const BINARIZE: Stage = |p, l| unsafe {
+    plate_binarize(
+        l.gray.as_ptr(),
+        l.gray.len(),
+        p.width,
+        p.height,
+        l.means.as_mut_ptr(),
+        l.means.len(),
+        l.least.as_mut_ptr(),
+        l.least.len(),
+        l.greatest.as_mut_ptr(),
+        l.greatest.len(),
+        l.edges.as_mut_ptr(),
+        l.edges.len(),
+        l.nears.as_mut_ptr(),
+        l.nears.len(),
+        l.bits.as_mut_ptr(),
+        l.bits.len(),
+    )
+};
 
-    pub const BINARIZE: Option<Stage> = Some(|p, l| unsafe {
-        plate_binarize(
-            l.gray.as_ptr(),
-            l.gray.len(),
-            p.width,
-            p.height,
-            l.means.as_mut_ptr(),
-            l.means.len(),
-            l.least.as_mut_ptr(),
-            l.least.len(),
-            l.greatest.as_mut_ptr(),
-            l.greatest.len(),
-            l.edges.as_mut_ptr(),
-            l.edges.len(),
-            l.nears.as_mut_ptr(),
-            l.nears.len(),
-            l.bits.as_mut_ptr(),
-            l.bits.len(),
-        )
-    });
+pub const DENOISED: Stage = |p, l| unsafe {
+    plate_denoised(
+        l.bits.as_ptr(),
+        l.bits.len(),
+        p.width,
+        p.height,
+        l.denoised.as_mut_ptr(),
+        l.denoised.len(),
+    )
+};
 
-    pub const DENOISED: Option<Stage> = Some(|p, l| unsafe {
-        plate_denoised(
-            l.bits.as_ptr(),
-            l.bits.len(),
-            p.width,
-            p.height,
-            l.denoised.as_mut_ptr(),
-            l.denoised.len(),
-        )
-    });
+pub const FINDERS: Stage = |p, l| unsafe {
+    plate_finders(l.denoised.as_ptr(), l.denoised.len(), p.width, p.height, l.list.as_mut_ptr(), l.list.len())
+};
 
-    pub const FINDERS: Option<Stage> = Some(|p, l| unsafe {
-        plate_finders(
-            l.denoised.as_ptr(),
-            l.denoised.len(),
-            p.width,
-            p.height,
-            l.list.as_mut_ptr(),
-            l.list.len(),
-        )
-    });
+pub const CANDIDATES: Stage = |p, l| unsafe {
+    plate_candidates(
+        l.denoised.as_ptr(),
+        l.denoised.len(),
+        p.width,
+        p.height,
+        l.detections.as_mut_ptr(),
+        l.detections.len(),
+    )
+};
 
-    pub const CANDIDATES: Option<Stage> = Some(|p, l| unsafe {
-        plate_candidates(
-            l.denoised.as_ptr(),
-            l.denoised.len(),
-            p.width,
-            p.height,
-            l.detections.as_mut_ptr(),
-            l.detections.len(),
-        )
-    });
-}
-
-#[cfg(not(stages))]
-mod linked {
-    use super::*;
-
-    pub const GRAY: Option<Stage> = None;
-    pub const BINARIZE: Option<Stage> = None;
-    pub const DENOISED: Option<Stage> = None;
-    pub const FINDERS: Option<Stage> = None;
-    pub const CANDIDATES: Option<Stage> = None;
-}
-
-pub use linked::*;
-
-#[cfg(chain)]
-pub const CHAIN: Option<Stage> = Some(|p, l| unsafe {
+pub const CHAIN: Stage = |p, l| unsafe {
     plate_chain(
         p.bytes.as_ptr(),
         p.bytes.len(),
@@ -251,7 +218,4 @@ pub const CHAIN: Option<Stage> = Some(|p, l| unsafe {
         l.detections.as_mut_ptr(),
         l.detections.len(),
     )
-});
-
-#[cfg(not(chain))]
-pub const CHAIN: Option<Stage> = None;
+};

@@ -1,0 +1,123 @@
+// C entries of the single stages, for measurements: numbers as themselves, a slice as its pointer and its length. Each gives the number of its stage's refusal, or 0.
+ghost use mathlib.Core.Path.{_≡_};
+ghost use mathlib.Core.List.{_∷_, []};
+ghost use Prim.Native.Nat.{_*_};
+ghost use lib.ListN.{length};
+ghost use Rattle.lists.specs.Lists.{filled};
+ghost use Rattle.lcr_core.specs.Outcome.{unless};
+ghost use Rattle.little_endian.specs.Bytes.{put};
+ghost use Rattle.binary.specs.Binary.{byteOf, bytesOf};
+ghost use Rattle.image.specs.Gray.{grayRefusal, grayWritten};
+ghost use Rattle.image.specs.Denoise.{denoisedRefusal, denoisedWritten};
+ghost use Rattle.blocks.specs.Blocks.{blocksIn, meanAt, leastAt, greatestAt, edgeAt, nearAt};
+ghost use Rattle.binarize.specs.Binarize.{isDark, binarizeRefusal};
+ghost use Rattle.finders.specs.Answer.{heldIn, answerOf};
+ghost use Rattle.stored.specs.Stored.{storedBytes, over};
+ghost use Rattle.candidates.specs.Candidates.{detectAnswer};
+ghost use Rattle.firmware.specs.Firmware.{firmwareBytes};
+ghost use Rattle.entries.specs.Entries.{listRefusal};
+
+// Gray conversion.
+#[no_mangle]
+pub extern "C" fn plate_gray(
+    picture: &[u8],
+    width: u32,
+    height: u32,
+    stride: u32,
+    format: u8,
+    gray: &mut [u8],
+) -> u8
+    ensures number { λ r. ⌜ r ≡ grayRefusal (length (now (picture .entry))) width height stride format (length (now (gray .entry))) ⌝ }
+    ensures written { λ _. ⌜ now (gray .exit) ≡ grayWritten (now (picture .entry)) width height stride format (now (gray .entry)) ⌝ }
+{
+    lcr_core::number(image::gray::gray_buffer(picture, width, height, stride, format, gray))
+}
+
+// Black and white conversion.
+#[no_mangle]
+pub extern "C" fn plate_binarize(
+    gray: &[u8],
+    width: u32,
+    height: u32,
+    means: &mut [u8],
+    least: &mut [u8],
+    greatest: &mut [u8],
+    edges: &mut [u8],
+    nears: &mut [u8],
+    bits: &mut [u8],
+) -> u8
+    ensures number { λ r. ⌜ r ≡ binarizeRefusal (length (now (gray .entry))) width height (length (now (bits .entry))) (length (now (means .entry))
+        ∷ length (now (least .entry)) ∷ length (now (greatest .entry)) ∷ length (now (edges .entry)) ∷ length (now (nears .entry)) ∷ []) ⌝ }
+    ensures means { λ r. ⌜ now (means .exit) ≡ unless r (now (means .entry))
+        (filled (blocksIn width height) (meanAt (now (gray .entry)) width height) (now (means .entry))) ⌝ }
+    ensures least { λ r. ⌜ now (least .exit) ≡ unless r (now (least .entry))
+        (filled (blocksIn width height) (leastAt (now (gray .entry)) width height) (now (least .entry))) ⌝ }
+    ensures greatest { λ r. ⌜ now (greatest .exit) ≡ unless r (now (greatest .entry))
+        (filled (blocksIn width height) (greatestAt (now (gray .entry)) width height) (now (greatest .entry))) ⌝ }
+    ensures edges { λ r. ⌜ now (edges .exit) ≡ unless r (now (edges .entry))
+        (filled (blocksIn width height) (edgeAt (now (gray .entry)) width height) (now (edges .entry))) ⌝ }
+    ensures nears { λ r. ⌜ now (nears .exit) ≡ unless r (now (nears .entry))
+        (filled (blocksIn width height) (nearAt (now (gray .entry)) width height) (now (nears .entry))) ⌝ }
+    ensures bits { λ r. ⌜ now (bits .exit) ≡ unless r (now (bits .entry))
+        (filled (bytesOf (width * height)) (byteOf (isDark (now (gray .entry)) width height)) (now (bits .entry))) ⌝ }
+{
+    lcr_core::number(binarize::binarize(
+        gray,
+        width,
+        height,
+        means,
+        least,
+        greatest,
+        edges,
+        nears,
+        bits,
+    ))
+}
+
+// Denoising.
+#[no_mangle]
+pub extern "C" fn plate_denoised(bits: &[u8], width: u32, height: u32, denoised: &mut [u8]) -> u8
+    ensures number { λ r. ⌜ r ≡ denoisedRefusal (length (now (bits .entry))) width height (length (now (denoised .entry))) ⌝ }
+    ensures written { λ _. ⌜ now (denoised .exit) ≡ denoisedWritten (now (bits .entry)) width height (now (denoised .entry)) ⌝ }
+{
+    lcr_core::number(image::denoise::denoised(bits, width, height, denoised))
+}
+
+// The finder search, which leaves the stored list.
+#[no_mangle]
+pub extern "C" fn plate_finders(bits: &[u8], width: u32, height: u32, list: &mut [u8]) -> u8
+    ensures number { λ r. ⌜ r ≡ listRefusal (answerOf (now (bits .entry)) width height) width height (length (now (list .entry))) ⌝ }
+    ensures list { λ r. ⌜ now (list .exit) ≡ unless r (now (list .entry))
+        (over (storedBytes width height (heldIn (answerOf (now (bits .entry)) width height .finders))) (now (list .entry))) ⌝ }
+{
+    let found = finders::find_finders(bits, width, height);
+    let n = found.refusal;
+    if n != 0 {
+        return n;
+    }
+    let held = found.finders;
+    let written = stored::write_list(held, width, height, list);
+    written.refusal
+}
+
+// The detections, which leaves the firmware's bytes, as many as there is room for.
+#[no_mangle]
+pub extern "C" fn plate_candidates(
+    bits: &[u8],
+    width: u32,
+    height: u32,
+    detections: &mut [u8],
+) -> u8
+    ensures number { λ r. ⌜ r ≡ detectAnswer (now (bits .entry)) width height .refusal ⌝ }
+    ensures detections { λ r. ⌜ now (detections .exit) ≡ unless r (now (detections .entry))
+        (put (firmwareBytes (detectAnswer (now (bits .entry)) width height .detections)) 0 (now (detections .entry))) ⌝ }
+{
+    let answer = candidates::detect_candidates(bits, width, height);
+    let n = answer.refusal;
+    if n != 0 {
+        return n;
+    }
+    let found = answer.detections;
+    firmware::put_detections(detections, found);
+    0
+}
