@@ -6,6 +6,7 @@ use std::collections::BTreeMap;
 pub struct Coverage {
     refusals: [u64; 9],
     finders: BTreeMap<u8, u64>,
+    counts: BTreeMap<u8, BTreeMap<u8, u64>>,
     detections: BTreeMap<u8, u64>,
     markers: u64,
 }
@@ -19,7 +20,8 @@ impl Coverage {
         if function == 32 && answer[0] == 0 {
             *self.finders.entry(answer[1]).or_default() += 1;
         }
-        if function >= 80 {
+        if function >= 80 && answer[0] == 0 {
+            *self.counts.entry(function).or_default().entry(answer[1]).or_default() += 1;
             for place in answer[2..].chunks_exact(122).take(answer[1] as usize) {
                 *self.detections.entry(place[48]).or_default() += 1;
                 self.markers += place[49] as u64;
@@ -34,6 +36,9 @@ impl Coverage {
         let numbers: Vec<String> = (0..9).map(|k| format!("{k}: {}", self.refusals[k])).collect();
         println!("refusal numbers met: {}", numbers.join(", "));
         println!("searches by finders: {}", list(&self.finders));
+        for (function, counts) in &self.counts {
+            println!("answers of {function} by detections: {}", list(counts));
+        }
         println!("detections by version: {}; with a marker: {}", list(&self.detections), self.markers);
     }
 }

@@ -52,6 +52,7 @@ fn by_clock() -> u64 {
 /// FOLDER/PROGRAM/stdin has the records of a replay program, FOLDER/PROGRAM/stdout the answers.
 fn vectors(folder: &str, seed: u64) {
     println!("seed {seed}");
+    let mut met = coverage::Coverage::default();
     for program in ["replay", "replay_image", "replay_candidates", "replay_chain"] {
         let (mut records, mut lines) = (Vec::new(), String::new());
         for (function, name, _) in record::FUNCTIONS.iter().filter(|f| record::program_of(f.2) == program) {
@@ -60,8 +61,10 @@ fn vectors(folder: &str, seed: u64) {
             let cases = Reach::Sample.cases(*function);
             for i in 0..cases {
                 let record = cases::case(*function, i, &mut rng, Reach::Sample);
+                let answer = answers::answer(&record).bytes;
+                met.note(*function, &answer);
                 records.extend(record.encoded());
-                lines += &compare::hex(&answers::answer(&record).bytes);
+                lines += &compare::hex(&answer);
                 lines.push('\n');
             }
             println!("{program}: {name}, {cases} records, {} bytes", records.len() - before);
@@ -71,6 +74,7 @@ fn vectors(folder: &str, seed: u64) {
         std::fs::write(folder.join("stdin"), records).expect("stdin");
         std::fs::write(folder.join("stdout"), lines).expect("stdout");
     }
+    met.print();
 }
 
 /// Reads records from standard input and prints the answers: a replay program in Rust.
