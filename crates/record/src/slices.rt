@@ -19,13 +19,6 @@ pub fn rest(s: &[u8], n: usize) -> &[u8] {
     &s[..0]
 }
 
-pub fn rest_mut(s: &mut [u8], n: usize) -> &mut [u8] {
-    if n <= s.len() {
-        return &mut s[n..];
-    }
-    &mut s[..0]
-}
-
 // The length of a lent slice that stands in a record.
 fn length_at(p: &[u8], at: u32) -> usize {
     little_endian::get32(p, at) as usize

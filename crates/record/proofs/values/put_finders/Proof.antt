@@ -1,17 +1,29 @@
 -- `record::values::put_finders` meets its contract. Assumes nothing.
-use Prim.Native.Nat.{_≤_, _-_}
-use mathlib.Core.Path.{_≡_}
+use mathlib.Core.Path.{_≡_, refl, ap, _∙_}
+use Prim.Native.Nat.{_+_, _-_, _≤_, _<_}
+use lib.ListN.{length, take, length-map}
 use native.Mathlib.Omega.{arith}
-use lib.ListN.{length}
+use Rattle.lists.specs.Lists.{flatMap}
+use Rattle.little_endian.specs.Bytes.{put}
+use denote.Ref.{now}
+use Rattle.little_endian.proofs.Pieces.{piece-more}
+use Rattle.little_endian.proofs.Round.{length-put}
+use Rattle.finders.specs.Answer.{heldIn}
+use Rattle.firmware.proofs.Bytes.{length-finder}
+use Rattle.record.proofs.Parts.{held-all, finders-are, finders-end}
+use Rattle.firmware.specs.Firmware.{finderBytes}
 use borrow.Author.Needs.{needs}
 use Rattle.record.proofs.values.put_finders.Statement.{statement}
 use Rattle.record.proofs.values.put_finders.Tie as tie
 
 abbrev Inv-loop : tie.InvT-loop
-Inv-loop out₀ at t count i₀ out i = (i ≤ 128) × (length out ≡ length out₀)
+Inv-loop out₀ at t count i₀ out i = (i ≤ 128) × (i ≤ count) × (length out ≡ length out₀) × (out ≡ put (flatMap finderBytes (take i (t .table))) (at + 1) out₀)
 
 abbrev μ-loop : tie.MeasureT-loop
 μ-loop out₀ at t count i₀ out i = 128 - i
+
+long : (c : tie.Start Inv-loop μ-loop) → length (c .args .t3 .table) ≡ 128
+long c = simp length-map at (c .good .1 .1 .0 .1 .1 .1 .0 .1 .0 .1)
 
 cast-put8 : tie.Need-cast-put8 Inv-loop μ-loop
 cast-put8 c = omega arith
@@ -20,7 +32,8 @@ put8-requires : tie.Need-put8-requires Inv-loop μ-loop
 put8-requires c κs = search needs
 
 loop-holds : tie.Need-loop-holds Inv-loop μ-loop
-loop-holds c = omega arith
+unfolding flatMap put
+loop-holds c = (omega arith, omega arith, refl, refl)
 
 add-result : tie.Need-add-result Inv-loop μ-loop
 add-result c = omega arith
@@ -35,7 +48,14 @@ same-length : tie.Need-same-length Inv-loop μ-loop
 same-length c = search needs
 
 returns : tie.Need-returns Inv-loop μ-loop
-returns c = search needs
+returns c =
+    let s = c .before .before .before .before .before .before .before .before in
+    let t = s .args .t3 in
+    let l = c .before .before .loop in
+    let e : l .i ≡ t .count = omega (arith, c .if1 .taken) in
+    let h : take (l .i) (t .table) ≡ heldIn t = ap (λ z. take z (t .table)) e in
+    let m : l .i ≤ length (t .table) = omega (arith, long s) in
+    (l .inv .3 ∙ ap (put (flatMap finderBytes (take (l .i) (t .table))) (s .args .at + 1)) (c .before .before .before .before .before .put8 .ensures) ∙ finders-are t (l .i) (s .args .at) (now (s .args .out)) h, finders-end t (l .i) (s .args .at) m h)
 
 mul-f : tie.Need-mul-f Inv-loop μ-loop
 mul-f c = omega arith
@@ -65,7 +85,15 @@ loop-less : tie.Need-loop-less Inv-loop μ-loop
 loop-less c = omega arith
 
 loop-again : tie.Need-loop-again Inv-loop μ-loop
-loop-again c = search needs
+loop-again c =
+    let s = c .before .before .before .before .before .before .before .before .before .before .before .before .before in
+    let t = s .args .t3 in
+    let l = c .before .before .before .before .before .before .before .loop in
+    let o = c .before .before .before .before .before .before .before .before .before .before .put8 .last .0 in
+    let n : l .i < length (t .table) = omega (arith, long s, c .before .before .before .before .before .before .loop-test .taken) in
+    let e : c .before .before .put-finder .last .0 ≡ put (flatMap finderBytes (take (l .i + 1) (t .table))) (s .args .at + 1) o =
+    c .before .before .put-finder .ensures ∙ piece-more finderBytes 16 length-finder (t .table) (s .args .at + 1) (l .i) _ o (l .out) n (l .inv .3) in
+    (omega (arith, c .before .before .before .before .before .before .loop-test .taken), omega (arith, c .before .before .before .before .before .if1 .left), ap length e ∙ length-put (flatMap finderBytes (take (l .i + 1) (t .table))) (s .args .at + 1) o, e)
 
 add-result-3 : tie.Need-add-result-3 Inv-loop μ-loop
 add-result-3 c = omega arith
@@ -74,7 +102,14 @@ same-length-2 : tie.Need-same-length-2 Inv-loop μ-loop
 same-length-2 c = search needs
 
 returns-2 : tie.Need-returns-2 Inv-loop μ-loop
-returns-2 c = search needs
+returns-2 c =
+    let s = c .before .before .before .before .before .before .before in
+    let t = s .args .t3 in
+    let l = c .before .loop in
+    let e : l .i ≡ 128 = omega (arith, c .loop-test .left) in
+    let h : take (l .i) (t .table) ≡ heldIn t = held-all t (l .i) (omega arith) (l .inv .1) (long s) in
+    let m : l .i ≤ length (t .table) = omega (arith, long s) in
+    (l .inv .3 ∙ ap (put (flatMap finderBytes (take (l .i) (t .table))) (s .args .at + 1)) (c .before .before .before .before .put8 .ensures) ∙ finders-are t (l .i) (s .args .at) (now (s .args .out)) h, omega (arith, e, finders-end t (l .i) (s .args .at) m h))
 
 pub put-finders-spec : {M : Type 1} → statement M
 put-finders-spec =

@@ -1,0 +1,31 @@
+-- `record::values::put_detections` meets its contract. Assumes nothing.
+use mathlib.Core.Path.{refl, ap, _∙_}
+use denote.Ref.{now}
+use Rattle.little_endian.specs.Bytes.{put}
+use Rattle.firmware.specs.Firmware.{firmwareBytes}
+use borrow.Author.Needs.{needs}
+use Rattle.record.proofs.values.put_detections.Statement.{statement}
+use Rattle.record.proofs.values.put_detections.Tie as tie
+
+put8-requires : tie.Need-put8-requires
+put8-requires c κs = search needs
+
+put-table-requires : tie.Need-put-table-requires
+put-table-requires c κs = search needs
+
+mul-result : tie.Need-mul-result
+mul-result c = search needs
+
+add-result : tie.Need-add-result
+add-result c = search needs
+
+same-length : tie.Need-same-length
+same-length c = search needs
+
+returns : tie.Need-returns
+unfolding put
+returns c = (c .before .before .before .put-table .ensures ∙ ap (put (firmwareBytes (c .before .before .before .before .before .before .before .before .before .before .args .t)) 1) (c .before .before .before .before .before .before .before .put8 .ensures), refl)
+
+pub put-detections-spec : {M : Type 1} → statement M
+put-detections-spec =
+    tie.close (tie.spec put8-requires put-table-requires mul-result add-result same-length returns)
