@@ -1,11 +1,13 @@
 -- Parts of records and answers (docs/REPLAY.md, "Form"): "All numbers are little-endian, floats are their bits." A byte beyond a slice reads as 0 and is not
 -- written. The bytes of floats, finders, transforms and detections are the firmware's. Definitions only.
-use Prim.Native.Nat.{ℕ, _+_, _*_}
-use mathlib.Core.Bool.{Bool, cond}
+use Prim.Native.Nat.{ℕ, zero, suc, _+_, _*_, _%_, _^_}
+use mathlib.Core.Bool.{Bool, true, false, cond}
 use mathlib.Core.List.{List, [], _∷_, _++_}
-use lib.ListN.{getD}
+use lib.Dec.{ltb}
+use lib.Bits.{bitXor}
+use lib.ListN.{length, getD}
 use lib.Ieee.{Float, nan, binary32, binary64, ofBits}
-use Rattle.lists.specs.Lists.{tabulate, flatMap}
+use Rattle.lists.specs.Lists.{tabulate, flatMap, folded}
 use Rattle.little_endian.specs.Bytes.{bytesLE, readLE}
 use Rattle.transform.specs.declared.Point.{Point}
 use Rattle.transform.specs.declared.Transform.{Transform}
@@ -70,3 +72,33 @@ findersBytes t = bytesLE 1 (t .count) ++ flatMap finderBytes (heldIn t)
 -- number, count and detections
 abbrev pub detectionsBytes : ℕ → Detections → List ℕ
 detectionsBytes refusal t = refusal ∷ firmwareBytes t
+
+-- ---- lent slices
+-- the longest slice that is lent
+abbrev pub longest : ℕ
+longest = 262144
+
+-- length: that of a lent slice
+abbrev pub lengthAt : List ℕ → ℕ → ℕ
+lengthAt p i = readLE 4 p i
+
+-- whether none of the n lengths from place i on is over the longest
+unfoldable pub lendableAt : List ℕ → ℕ → ℕ → Bool
+lendableAt p i zero = true
+lendableAt p i (suc n) = cond (ltb longest (lengthAt p i)) false (lendableAt p (i + 4) n)
+
+-- a lent slice of n bytes before the call: 0, 1, .., 250, 0, 1, ..
+abbrev pub lentBytes : ℕ → List ℕ
+lentBytes n = tabulate n (λ i. i % 251)
+
+-- one byte more of the hash: first exclusive or, then times 100000001b3 modulo 2 to the 64th
+abbrev pub hashStep : ℕ → ℕ → ℕ
+hashStep h b = bitXor h b * 1099511628211 % 2 ^ 64
+
+-- the hash, FNV-1a of 64 bits: from cbf29ce484222325
+abbrev pub hashOf : List ℕ → ℕ
+hashOf s = folded hashStep 14695981039346656037 s
+
+-- slice, as the call left it: its length, u32, and the hash of its bytes, 8 bytes
+unfoldable pub sliceBytes : List ℕ → List ℕ
+sliceBytes s = bytesLE 4 (length s) ++ bytesLE 8 (hashOf s)

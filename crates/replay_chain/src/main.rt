@@ -30,13 +30,13 @@ fn chain(p: &[u8], out: &mut [u8]) -> usize {
         slices::lent(&mut nears, p, 41),
     );
     let found = a.detections;
-    let at = (values::put_detections(out, a.refusal, found) % 1024) as u32;
+    let at = (values::put_detections(out, a.refusal, found) % 1024) as u16;
     slices::put_lent(out, at, &gray, p, 13);
     slices::put_lent(out, at + 12, &bits, p, 17);
     slices::put_lent(out, at + 24, &denoised, p, 21);
     slices::put_blocks(
         out,
-        at as u16 + 36,
+        at + 36,
         p,
         25,
         &means,

@@ -1,6 +1,8 @@
 -- `record::slices::lent` meets its contract. Assumes nothing.
 use native.Mathlib.Omega.{arith}
+use denote.Ref.{now}
 use lib.ListN.{length-take}
+use Rattle.record.proofs.SliceLaws.{lent-front, lent-whole}
 use borrow.Author.Needs.{needs}
 use Rattle.record.proofs.slices.lent.Statement.{statement}
 use Rattle.record.proofs.slices.lent.Tie as tie
@@ -21,13 +23,13 @@ slice-aggregate-result : tie.Need-slice-aggregate-result
 slice-aggregate-result c = simp length-take (omega arith)
 
 returns : tie.Need-returns
-returns c = search needs
+returns c = let a = c .before .before .before .before .before .before .before .before .before .args in lent-front _ _ (now (a .s)) _ (c .before .before .before .before .before .before .length-at .ensures) (omega arith) (c .before .before .before .fill .ensures)
 
 fill-requires-2 : tie.Need-fill-requires-2
 fill-requires-2 c κs = search needs
 
 returns-2 : tie.Need-returns-2
-returns-2 c = search needs
+returns-2 c = let a = c .before .before .before .before .before .before .before .before .args in lent-whole _ _ (now (a .s)) _ (c .before .before .before .before .before .length-at .ensures) (omega (arith, c .before .before .before .before .if1 .left)) (c .before .before .fill2 .ensures)
 
 pub lent-spec : {M : Type 1} → statement M
 lent-spec =
