@@ -1,3 +1,5 @@
+pub mod Products
+pub mod FlagLaws
 pub mod Tallies
 pub mod LevelLaws
 pub mod Alike

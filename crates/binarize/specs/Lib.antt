@@ -1,3 +1,4 @@
 pub mod Levels
 pub mod Binarize
 pub mod Splits
+pub mod Flags

@@ -3,8 +3,9 @@ ghost use mathlib.Core.Path.{_≡_};
 ghost use mathlib.Core.Bool.{cond, _||_};
 ghost use Prim.Native.Nat.{ℕ, _+_, _-_, _*_, _/_, _≤_, _<_, min};
 ghost use lib.ListN.{length};
-ghost use lib.Dec.{eqb, ltb};
+ghost use lib.Dec.{eqb, leb, ltb};
 ghost use Rattle.lists.specs.Lists.{range, folded};
+ghost use Rattle.binary.specs.Binary.{bit};
 ghost use Rattle.blocks.specs.Blocks.{at, cells, about};
 ghost use Rattle.binarize.specs.Levels.{markedMeans, anyMarked, windowLevel, globalLevel};
 ghost use Rattle.binarize.specs.Splits.{levelOf, withBlock, blockStep, columnStep, noBlock, Bounded, InGrid, Grid};
@@ -23,27 +24,33 @@ pub struct Split {
     pub highs: u32,
 }
 
-// One block more, which counts if it is marked.
+// 1 where a block is marked.
+fn one_marked(mark: u8) -> u32
+    ensures { λ r. ⌜ r ≡ bit (eqb mark 1) ⌝ }
+{
+    if mark == 1 { 1 } else { 0 }
+}
+
+// 1 where a mean is up to a bound.
+fn one_low(v: u8, bound: u8) -> u32
+    ensures { λ r. ⌜ r ≡ bit (leb v bound) ⌝ }
+{
+    if v <= bound { 1 } else { 0 }
+}
+
+// One block more, which counts if it is marked: by products with 0 or 1, since no branch could be foretold.
 fn with_block(t: Split, v: u8, mark: u8, bound: u8) -> Split
     requires { ⌜ Bounded 8388607 t ⌝ }
     ensures { λ r. ⌜ (r ≡ withBlock bound t v mark) × ((n : ℕ) → Bounded n t → Bounded (n + 1) r) ⌝ }
 {
-    if mark != 1 {
-        return t;
-    }
-    if v <= bound {
-        return Split {
-            low: t.low + v as u32,
-            lows: t.lows + 1,
-            high: t.high,
-            highs: t.highs,
-        };
-    }
+    let on = one_marked(mark);
+    let low = on * one_low(v, bound);
+    let high = on - low;
     Split {
-        low: t.low,
-        lows: t.lows,
-        high: t.high + v as u32,
-        highs: t.highs + 1,
+        low: t.low + v as u32 * low,
+        lows: t.lows + low,
+        high: t.high + v as u32 * high,
+        highs: t.highs + high,
     }
 }
 
@@ -134,14 +141,14 @@ fn level_in(means: &[u8], marks: &[u8], w: usize, a: usize, b: usize, c: usize, 
 }
 
 // Where a window of radius r about place p begins.
-fn begins(p: usize, r: usize) -> usize
+pub fn begins(p: usize, r: usize) -> usize
     ensures { λ b. ⌜ b ≡ p - r ⌝ }
 {
     if p < r { 0 } else { p - r }
 }
 
 // Where it ends, of n places.
-fn ends(n: usize, p: usize, r: usize) -> usize
+pub fn ends(n: usize, p: usize, r: usize) -> usize
     requires { ⌜ (p ≤ 512) × (r ≤ 512) ⌝ }
     ensures { λ e. ⌜ e ≡ min n (p + r + 1) ⌝ }
 {

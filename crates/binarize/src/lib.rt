@@ -14,6 +14,7 @@ ghost use Rattle.blocks.specs.Blocks.{blocksIn, meanAt, leastAt, greatestAt, ed
 ghost use Rattle.binarize.specs.Binarize.{isDark, binarizeRefusal};
 ghost use Rattle.binarize.specs.Splits.{Passed};
 
+mod blank;
 mod levels;
 mod rows;
 

@@ -1,5 +1,8 @@
 // The bits of a picture whose blocks' means and marks are known, written in pixel order, each byte once.
-use super::levels::block_level;
+use super::blank::flag_columns;
+use super::blank::level_by;
+use super::levels::begins;
+use super::levels::ends;
 use super::levels::global_level;
 use binary::put_bit;
 ghost use mathlib.Core.Path.{_≡_};
@@ -40,9 +43,11 @@ fn row_levels<'a>(
     ensures { λ _. ⌜ now (levels .exit)
         ≡ filled bw (λ x. windowLevel (at (now (means .entry))) (at (now (edges .entry))) (at (now (nears .entry))) bw bh x y global) (now (levels .entry)) ⌝ }
 {
+    let mut flags = [0u8; 512];
+    flag_columns(edges, nears, bw, begins(y, 4), ends(bh, y, 4), &mut flags);
     let mut x = 0;
     while x < bw {
-        levels[x] = block_level(means, edges, nears, bw, bh, x, y, global);
+        levels[x] = level_by(means, edges, nears, bw, bh, x, y, global, &flags);
         x += 1;
     }
 }
