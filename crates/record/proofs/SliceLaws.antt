@@ -8,8 +8,8 @@ use native.Mathlib.Numerals.{add-one}
 use native.Mathlib.Omega.{arith}
 use lib.Dec.{ltb}
 use borrow.Author.Tests.{lt-ltb, le-ltb}
-use lib.ListN.{length, take, drop, getD, length-append}
-use lib.Seq.{drop-cons, drop-length, length-take-le, take-at}
+use lib.ListN.{length, take, drop, getD, length-append, length-drop}
+use lib.Seq.{drop-cons, drop-length, length-take-le, take-at, drop-at}
 use Rattle.lists.specs.Lists.{flatMap, folded}
 use Rattle.lists.proofs.Tabulate.{length-tabulate}
 use Rattle.little_endian.specs.Bytes.{bytesLE, put}
@@ -53,6 +53,13 @@ drop-past zero [] h = refl
 drop-past zero (x ∷ l) h = absurd (omega arith)
 drop-past (suc n) [] h = refl
 drop-past (suc n) (x ∷ l) h = drop-past n l (omega arith)
+
+-- a slice whose first n bytes were handed out
+pub kept-long : (n : ℕ) (l part : List ℕ) → n ≤ length l → length part ≡ length (take n l) → length (part ++ drop n l) ≡ length l
+kept-long n l part h e = length-append part (drop n l) ∙ omega (arith, e, length-take-le n l h, length-drop n l)
+
+pub kept-rest : (n : ℕ) (l part : List ℕ) → n ≤ length l → length part ≡ length (take n l) → drop n (part ++ drop n l) ≡ drop n l
+kept-rest n l part h e = drop-at part (drop n l) n (e ∙ length-take-le n l h)
 
 -- the front of a slice, filled and handed out
 pub lent-front : (n v : ℕ) (s part : List ℕ) → n ≡ v → n ≤ length s → part ≡ lentBytes (length (take n s)) → take n (part ++ drop n s) ≡ lentBytes (min v (length s))

@@ -1,11 +1,13 @@
 -- Parts of records and answers (docs/REPLAY.md, "Form"): "All numbers are little-endian, floats are their bits." A byte beyond a slice reads as 0 and is not
 -- written. The bytes of floats, finders, transforms and detections are the firmware's. Definitions only.
-use Prim.Native.Nat.{ℕ, zero, suc, _+_, _*_, _%_, _^_}
+use Prim.Native.Nat.{ℕ, zero, suc, _+_, _*_, _%_, _^_, _≤_}
+use mathlib.Core.Path.{_≡_}
+use mathlib.Core.Logic.{_⊎_}
 use mathlib.Core.Bool.{Bool, true, false, cond}
 use mathlib.Core.List.{List, [], _∷_, _++_}
-use lib.Dec.{ltb}
+use lib.Dec.{eqb, ltb}
 use lib.Bits.{bitXor}
-use lib.ListN.{length, getD}
+use lib.ListN.{length, take, drop, getD}
 use lib.Ieee.{Float, nan, binary32, binary64, ofBits}
 use Rattle.lists.specs.Lists.{tabulate, flatMap, folded}
 use Rattle.little_endian.specs.Bytes.{bytesLE, readLE}
@@ -17,6 +19,7 @@ use Rattle.finders.specs.declared.Finders.{Finders}
 use Rattle.finders.specs.Search.{maxFinders}
 use Rattle.finders.specs.Answer.{heldIn}
 use Rattle.candidates.specs.declared.Detections.{Detections}
+use Rattle.record.specs.declared.Call.{Call}
 use Rattle.firmware.specs.Firmware.{singleBytes, doubleBytes, finderBytes, firmwareBytes}
 
 -- ---- what stands at a place of a record
@@ -82,6 +85,10 @@ longest = 262144
 abbrev pub lengthAt : List ℕ → ℕ → ℕ
 lengthAt p i = readLE 4 p i
 
+-- the part of an array that is lent
+abbrev pub lentPart : List ℕ → ℕ → List ℕ → List ℕ
+lentPart p i a = take (lengthAt p i) a
+
 -- whether none of the n lengths from place i on is over the longest
 unfoldable pub lendableAt : List ℕ → ℕ → ℕ → Bool
 lendableAt p i zero = true
@@ -102,3 +109,39 @@ hashOf s = folded hashStep 14695981039346656037 s
 -- slice, as the call left it: its length, u32, and the hash of its bytes, 8 bytes
 unfoldable pub sliceBytes : List ℕ → List ℕ
 sliceBytes s = bytesLE 4 (length s) ++ bytesLE 8 (hashOf s)
+
+-- ---- the record itself
+-- the bytes of a function's payload before its lists and its rest: (function, bytes)
+abbrev pub fixedParts : List (ℕ × ℕ)
+fixedParts =
+    (1, 1) ∷ (2, 1) ∷ (3, 1) ∷ (4, 2) ∷ (5, 3) ∷ (6, 4) ∷ (7, 3) ∷ (8, 3)
+    ∷ (16, 17) ∷ (17, 32) ∷ (18, 12)
+    ∷ (32, 8) ∷ (34, 16)
+    ∷ (48, 336) ∷ (49, 576) ∷ (50, 64) ∷ (51, 48) ∷ (52, 72) ∷ (53, 68) ∷ (54, 68) ∷ (55, 66) ∷ (56, 48) ∷ (57, 48) ∷ (58, 58)
+    ∷ (64, 20) ∷ (65, 73) ∷ (66, 77) ∷ (67, 125)
+    ∷ (80, 12) ∷ (81, 8) ∷ (82, 8)
+    ∷ (96, 45)
+    ∷ []
+
+-- the second of the first pair with such a first, 0 where there is none
+unfoldable pub lookup : ℕ → List (ℕ × ℕ) → ℕ
+lookup f [] = 0
+lookup f (e ∷ rest) = cond (eqb f (e .0)) (e .1) (lookup f rest)
+
+-- that of one function, 0 for those that are not listed
+unfoldable pub fixedPart : ℕ → ℕ
+fixedPart f = lookup f fixedParts
+
+-- the number of a function that is asked for, 0, which no function has, where its payload of len bytes is shorter than its fixed part
+abbrev pub askedOf : ℕ → ℕ → ℕ
+askedOf f len = cond (ltb len (fixedPart f)) 0 f
+
+-- no record: the input ended, or the payload has no room
+abbrev pub noCall : Call
+noCall = record { read = false; function = 0; len = 0 }
+
+-- what holds of a slice before and after a record was read into it: no record, or one whose payload of len bytes stands at the front, what follows it untouched
+abbrev pub ReadInto : Call → List ℕ → List ℕ → Type 0
+ReadInto r before after =
+    (length after ≡ length before)
+    × ((r ≡ noCall) ⊎ ((r .read ≡ true) × (r .len ≤ length after) × (fixedPart (r .function) ≤ r .len) × (drop (r .len) after ≡ drop (r .len) before)))

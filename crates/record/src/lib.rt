@@ -1,8 +1,10 @@
 // Records and answers for the replay programs (docs/REPLAY.md): a record is read, numbers stand at places, an answer is a line of digits.
 // A byte beyond a slice reads as 0 and is not written.
 ghost use mathlib.Core.Path.{_≡_};
-ghost use Prim.Native.Nat.{_≤_};
+ghost use mathlib.Core.Bool.{false};
+ghost use Prim.Native.Nat.{_≤_, _<_};
 ghost use lib.ListN.{length};
+ghost use Rattle.record.specs.Record.{fixedPart, askedOf, noCall, ReadInto};
 
 pub mod slices;
 pub mod values;
@@ -19,43 +21,59 @@ pub struct Call {
 }
 
 // How many bytes the payload of a function has before its lists and its rest.
-fn fixed_part(function: u8) -> usize {
+fn fixed_part(function: u8) -> usize
+    ensures { λ r. ⌜ r ≡ fixedPart function ⌝ }
+{
     match function {
-        1 | 2 | 3 => 1,
+        1 => 1,
+        2 => 1,
+        3 => 1,
         4 => 2,
-        5 | 7 | 8 => 3,
+        5 => 3,
         6 => 4,
+        7 => 3,
+        8 => 3,
         16 => 17,
         17 => 32,
-        18 | 80 => 12,
-        32 | 81 | 82 => 8,
+        18 => 12,
+        32 => 8,
         34 => 16,
         48 => 336,
         49 => 576,
         50 => 64,
-        51 | 56 | 57 => 48,
+        51 => 48,
         52 => 72,
-        53 | 54 => 68,
+        53 => 68,
+        54 => 68,
         55 => 66,
+        56 => 48,
+        57 => 48,
         58 => 58,
         64 => 20,
         65 => 73,
         66 => 77,
         67 => 125,
+        80 => 12,
+        81 => 8,
+        82 => 8,
         96 => 45,
         _ => 0,
     }
 }
 
 // A function's number, or 0, which no function has, where its payload is too short.
-fn asked(function: u8, len: usize) -> u8 {
+fn asked(function: u8, len: usize) -> u8
+    ensures { λ r. ⌜ r ≡ askedOf function len ⌝ }
+{
     if len < fixed_part(function) {
         return 0;
     }
     function
 }
 
-fn no_call() -> Call {
+fn no_call() -> Call
+    ensures { λ r. ⌜ r ≡ noCall ⌝ }
+{
     Call {
         read: false,
         function: 0,
@@ -63,8 +81,11 @@ fn no_call() -> Call {
     }
 }
 
-// Reads a record, its payload to the front of the slice.
-pub fn read(payload: &mut [u8]) -> Call {
+// Reads a record, its payload to the front of the slice. Left free is what the input gives: the function's number, the payload and its length, and whether
+// it ends; and, where it does, what the slice holds.
+pub fn read(payload: &mut [u8]) -> Call
+    ensures { λ r. ⌜ ReadInto r (now (payload .entry)) (now (payload .exit)) ⌝ }
+{
     let mut head = [0u8; 5];
     if io::read_full(0, &mut head) < 5 {
         return no_call();
@@ -107,8 +128,11 @@ fn spell(out: &[u8; ANSWER], n: usize, text: &mut [u8]) -> usize
     2 * i + 1
 }
 
-// Prints the first n bytes of an answer, or `-` for none.
-pub fn print_line(out: &[u8; ANSWER], n: usize) -> bool {
+// Prints the first n bytes of an answer, or `-` for none, and says whether that was done. Left free is whether the system takes the line; an answer longer
+// than there are bytes is not printed.
+pub fn print_line(out: &[u8; ANSWER], n: usize) -> bool
+    ensures { λ r. ⌜ (2304 < n → r ≡ false) ⌝ }
+{
     if n == 0 {
         return io::write_all(1, b"-\n");
     }

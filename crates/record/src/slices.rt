@@ -5,7 +5,7 @@ ghost use Prim.Native.Nat.{_+_, _<_, _^_, min};
 ghost use lib.ListN.{length, take, drop};
 ghost use Rattle.lists.specs.Lists.{flatMap};
 ghost use Rattle.little_endian.specs.Bytes.{put};
-ghost use Rattle.record.specs.Record.{lengthAt, lendableAt, lentBytes, hashStep, hashOf, sliceBytes};
+ghost use Rattle.record.specs.Record.{lengthAt, lentPart, lendableAt, lentBytes, hashStep, hashOf, sliceBytes};
 
 // No payload and no lent slice is longer.
 pub const LONGEST: usize = 262144;
@@ -51,8 +51,8 @@ pub fn lendable(p: &[u8], at: u16, slices: u8) -> bool
     true
 }
 
-// A slice to lend to a call: as many bytes as stand in a record, or as there are, filled. Left free is what s holds once the call is over: the lender
-// knows its length, and the call's own contract what it leaves in the slice.
+// A slice to lend to a call: as many bytes as stand in a record, or as there are, filled. Left free is what s holds when it comes back: that is
+// what the call does with the lent part.
 pub fn lent<'a>(s: &'a mut [u8], p: &[u8], at: u32) -> &'a mut [u8]
     ensures { λ r. ⌜ now r ≡ lentBytes (min (lengthAt (now (p .entry)) at) (length (now (s .entry)))) ⌝ }
 {
@@ -113,13 +113,13 @@ fn put_slice(out: &mut [u8], at: u32, s: &[u8])
 // The same of as many bytes of an array as stand in a record.
 fn put_part(out: &mut [u8], at: u32, a: &[u8; LONGEST], p: &[u8], from: u32)
     requires { ⌜ at < 2 ^ 17 ⌝ }
-    ensures { λ _. ⌜ now (out .exit) ≡ put (sliceBytes (take (lengthAt (now (p .entry)) from) (now (a .entry)))) at (now (out .entry)) ⌝ }
+    ensures { λ _. ⌜ now (out .exit) ≡ put (sliceBytes (lentPart (now (p .entry)) from (now (a .entry)))) at (now (out .entry)) ⌝ }
 {
     put_slice(out, at, front(a, length_at(p, from)));
 }
 
 pub fn put_lent(out: &mut [u8], at: u16, a: &[u8; LONGEST], p: &[u8], from: u32)
-    ensures { λ _. ⌜ now (out .exit) ≡ put (sliceBytes (take (lengthAt (now (p .entry)) from) (now (a .entry)))) at (now (out .entry)) ⌝ }
+    ensures { λ _. ⌜ now (out .exit) ≡ put (sliceBytes (lentPart (now (p .entry)) from (now (a .entry)))) at (now (out .entry)) ⌝ }
 {
     put_part(out, at as u32, a, p, from);
 }
@@ -136,7 +136,7 @@ pub fn put_blocks(
     edges: &[u8; LONGEST],
     nears: &[u8; LONGEST],
 )
-    ensures { λ _. ⌜ now (out .exit) ≡ put (flatMap sliceBytes (take (lengthAt (now (p .entry)) from) (now (means .entry)) ∷ take (lengthAt (now (p .entry)) (from + 4)) (now (least .entry)) ∷ take (lengthAt (now (p .entry)) (from + 8)) (now (greatest .entry)) ∷ take (lengthAt (now (p .entry)) (from + 12)) (now (edges .entry)) ∷ take (lengthAt (now (p .entry)) (from + 16)) (now (nears .entry)) ∷ [])) at (now (out .entry)) ⌝ }
+    ensures { λ _. ⌜ now (out .exit) ≡ put (flatMap sliceBytes (lentPart (now (p .entry)) from (now (means .entry)) ∷ lentPart (now (p .entry)) (from + 4) (now (least .entry)) ∷ lentPart (now (p .entry)) (from + 8) (now (greatest .entry)) ∷ lentPart (now (p .entry)) (from + 12) (now (edges .entry)) ∷ lentPart (now (p .entry)) (from + 16) (now (nears .entry)) ∷ [])) at (now (out .entry)) ⌝ }
 {
     let o = at as u32;
     let f = from as u32;

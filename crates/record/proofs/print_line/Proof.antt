@@ -12,7 +12,7 @@ write-all-requires : tie.Need-write-all-requires
 write-all-requires c κs = search needs
 
 returns : tie.Need-returns
-returns c = search needs
+returns c = λ h. absurd (omega (arith, c .before .before .if1 .taken))
 
 returns-2 : tie.Need-returns-2
 returns-2 c = search needs
@@ -33,7 +33,7 @@ write-all-requires-2 : tie.Need-write-all-requires-2
 write-all-requires-2 c κs = search needs
 
 returns-3 : tie.Need-returns-3
-returns-3 c = search needs
+returns-3 c = λ h. absurd (omega (arith, h, c .before .before .before .before .before .if2 .left))
 
 pub print-line-spec : {M : Type 1} → statement M
 print-line-spec =
