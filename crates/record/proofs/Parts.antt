@@ -1,7 +1,7 @@
 -- Parts of records as they are read, and of answers as they are written, one after the other. Assumes nothing.
 use mathlib.Core.Path.{_≡_, refl, sym, ap, ap₂, _∙_}
 use mathlib.Core.List.{List, [], _∷_, _++_, append-nil}
-use Prim.Native.Nat.{ℕ, zero, suc, _+_, _-_, _*_, _%_, _≤_, _<_}
+use Prim.Native.Nat.{ℕ, zero, suc, _+_, _-_, _*_, _/_, _%_, _≤_, _<_}
 use native.Mathlib.Nat.{add-zero}
 use native.Mathlib.Numerals.{add-one}
 use native.Mathlib.Omega.{arith}
@@ -9,7 +9,8 @@ use lib.ListN.{length, take, drop, getD, set, length-append, length-set}
 use lib.Seq.{take-all, take-length, drop-length, length-take-le}
 use lib.Ieee.{Float, nan, binary32, toBits}
 use Rattle.lists.specs.Lists.{tabulate, filled, flatMap}
-use Rattle.lists.proofs.Tabulate.{filled-none, filled-step, filled-whole}
+use Rattle.lists.proofs.Tabulate.{filled-none, filled-step, filled-whole, length-tabulate}
+use Rattle.lists.proofs.Folds.{flatMap-append}
 use Rattle.little_endian.specs.Bytes.{bytesLE, put}
 use Rattle.little_endian.proofs.Pieces.{put-then, length-flat}
 use Rattle.little_endian.proofs.Round.{length-bytes}
@@ -19,7 +20,7 @@ use Rattle.finders.specs.declared.Finders.{Finders}
 use Rattle.finders.specs.Answer.{heldIn}
 use Rattle.firmware.specs.Firmware.{singleBytes, finderBytes}
 use Rattle.firmware.proofs.Bytes.{length-finder}
-use Rattle.record.specs.Record.{doubleAt, doublesAt, finderAt, findersAt, pointBytes, findersBytes}
+use Rattle.record.specs.Record.{doubleAt, doublesAt, finderAt, findersAt, pointBytes, findersBytes, digitOf, byteDigits}
 
 -- ---- numbers
 
@@ -100,3 +101,35 @@ behind-first bs (x ∷ l) part h e =
 pub behind-nothing : (bs l : List ℕ) → length l ≤ 0 → l ≡ put bs 1 l
 behind-nothing bs [] h = sym (put-nowhere bs 1)
 behind-nothing bs (x ∷ l) h = absurd (omega arith)
+
+-- ---- a line of digits
+
+length-digits : (b : ℕ) → length (byteDigits b) ≡ 2
+unfolding byteDigits
+length-digits b = refl
+
+length-spelled : (f : ℕ → ℕ) (i : ℕ) → length (flatMap byteDigits (tabulate i f)) ≡ 2 * i
+length-spelled f i = length-flat byteDigits 2 length-digits (tabulate i f) ∙ ap (λ z. 2 * z) (length-tabulate i f)
+
+-- one byte more
+spelled-next : (f : ℕ → ℕ) (i : ℕ) → flatMap byteDigits (tabulate (i + 1) f) ≡ flatMap byteDigits (tabulate i f) ++ byteDigits (f i)
+unfolding tabulate flatMap
+spelled-next f i = rw (add-one i) (flatMap-append byteDigits (tabulate i f) (f i ∷ []) ∙ ap (λ z. flatMap byteDigits (tabulate i f) ++ z) (append-nil (byteDigits (f i))))
+
+pub spelled-more : (f : ℕ → ℕ) (l text : List ℕ) (i high low : ℕ) → text ≡ put (flatMap byteDigits (tabulate i f)) 0 l
+    → high ≡ digitOf (f i / 16 % 16) → low ≡ digitOf (f i % 16)
+    → set (set text (2 * i) high) (2 * i + 1) low ≡ put (flatMap byteDigits (tabulate (i + 1) f)) 0 l
+unfolding byteDigits put
+spelled-more f l text i high low e p q =
+    let z : 2 * i ≡ 0 + 2 * i = omega arith in
+    rw (p, q)
+    (ap (put (byteDigits (f i)) (2 * i)) e
+    ∙ put-then (2 * i) (flatMap byteDigits (tabulate i f)) (byteDigits (f i)) 0 (2 * i) l (length-spelled f i) z
+    ∙ ap (λ bs. put bs 0 l) (sym (spelled-next f i)))
+
+-- the line feed
+pub spelled-end : (f : ℕ → ℕ) (l text : List ℕ) (i : ℕ) → text ≡ put (flatMap byteDigits (tabulate i f)) 0 l → set text (2 * i) 10 ≡ put (flatMap byteDigits (tabulate i f) ++ (10 ∷ [])) 0 l
+unfolding put
+spelled-end f l text i e =
+    let z : 2 * i ≡ 0 + 2 * i = omega arith in
+    ap (λ t. set t (2 * i) 10) e ∙ put-then (2 * i) (flatMap byteDigits (tabulate i f)) (10 ∷ []) 0 (2 * i) l (length-spelled f i) z

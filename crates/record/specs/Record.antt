@@ -1,6 +1,6 @@
 -- Parts of records and answers (docs/REPLAY.md, "Form"): "All numbers are little-endian, floats are their bits." A byte beyond a slice reads as 0 and is not
 -- written. The bytes of floats, finders, transforms and detections are the firmware's. Definitions only.
-use Prim.Native.Nat.{ℕ, zero, suc, _+_, _*_, _%_, _^_, _≤_}
+use Prim.Native.Nat.{ℕ, zero, suc, _+_, _*_, _/_, _%_, _^_, _≤_}
 use mathlib.Core.Path.{_≡_}
 use mathlib.Core.Logic.{_⊎_}
 use mathlib.Core.Bool.{Bool, true, false, cond}
@@ -145,3 +145,16 @@ abbrev pub ReadInto : Call → List ℕ → List ℕ → Type 0
 ReadInto r before after =
     (length after ≡ length before)
     × ((r ≡ noCall) ⊎ ((r .read ≡ true) × (r .len ≤ length after) × (fixedPart (r .function) ≤ r .len) × (drop (r .len) after ≡ drop (r .len) before)))
+
+-- ---- the line
+-- a hexadecimal digit, lower case
+abbrev pub digitOf : ℕ → ℕ
+digitOf n = cond (ltb n 10) (48 + n) (87 + n)
+
+-- a byte: two digits
+unfoldable pub byteDigits : ℕ → List ℕ
+byteDigits b = digitOf (b / 16 % 16) ∷ digitOf (b % 16) ∷ []
+
+-- the first n bytes of an answer, and a line feed
+abbrev pub lineOf : ℕ → List ℕ → List ℕ
+lineOf n out = flatMap byteDigits (tabulate n (λ i. getD out i 0)) ++ (10 ∷ [])

@@ -2,9 +2,10 @@
 // A byte beyond a slice reads as 0 and is not written.
 ghost use mathlib.Core.Path.{_≡_};
 ghost use mathlib.Core.Bool.{false};
-ghost use Prim.Native.Nat.{_≤_, _<_};
+ghost use Prim.Native.Nat.{_+_, _*_, _%_, _≤_, _<_};
 ghost use lib.ListN.{length};
-ghost use Rattle.record.specs.Record.{fixedPart, askedOf, noCall, ReadInto};
+ghost use Rattle.little_endian.specs.Bytes.{put};
+ghost use Rattle.record.specs.Record.{fixedPart, askedOf, noCall, ReadInto, digitOf, lineOf};
 
 pub mod slices;
 pub mod values;
@@ -104,7 +105,9 @@ pub fn read(payload: &mut [u8]) -> Call
     }
 }
 
-fn digit(n: u8) -> u8 {
+fn digit(n: u8) -> u8
+    ensures { λ r. ⌜ r ≡ digitOf (n % 16) ⌝ }
+{
     if n % 16 < 10 {
         48 + n % 16
     } else {
@@ -115,7 +118,8 @@ fn digit(n: u8) -> u8 {
 // An answer of n bytes as hexadecimal digits and a line end, in text; how many bytes these are.
 fn spell(out: &[u8; ANSWER], n: usize, text: &mut [u8]) -> usize
     requires { ⌜ (n ≤ 2304) × (length (now text) ≡ 4609) ⌝ }
-    ensures { λ r. ⌜ r ≤ length (now (text .exit)) ⌝ }
+    ensures line { λ _. ⌜ now (text .exit) ≡ put (lineOf n (now (out .entry))) 0 (now (text .entry)) ⌝ }
+    ensures len { λ r. ⌜ r ≡ 2 * n + 1 ⌝ }
 {
     let mut i = 0;
     while i < n {

@@ -27,7 +27,7 @@ array-share-prefix-text : tie.Need-array-share-prefix-text
 array-share-prefix-text c = search needs
 
 slice-aggregate-write-all-2 : tie.Need-slice-aggregate-write-all-2
-slice-aggregate-write-all-2 c = simp length-take (omega (arith, c .before .before .spell .ensures))
+slice-aggregate-write-all-2 c = simp length-take (omega (arith, c .before .before .spell .ensures .1, c .before .before .spell .kept .1 .1 .0))
 
 write-all-requires-2 : tie.Need-write-all-requires-2
 write-all-requires-2 c κs = search needs

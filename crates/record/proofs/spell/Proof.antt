@@ -1,20 +1,26 @@
 -- `record::spell` meets its contract. Assumes nothing.
-use Prim.Native.Nat.{_≤_, _-_}
+use Prim.Native.Nat.{_-_, _≤_}
 use native.Mathlib.Omega.{arith}
-use mathlib.Core.Path.{_≡_}
-use lib.ListN.{length, length-set}
+use mathlib.Core.Path.{_≡_, refl, ap, _∙_}
+use denote.Ref.{now}
+use lib.ListN.{length, getD, length-set}
+use Rattle.lists.specs.Lists.{tabulate, flatMap}
+use Rattle.little_endian.specs.Bytes.{put}
+use Rattle.record.specs.Record.{byteDigits, lineOf}
+use Rattle.record.proofs.Parts.{spelled-more, spelled-end}
 use borrow.Author.Needs.{needs}
 use Rattle.record.proofs.spell.Statement.{statement}
 use Rattle.record.proofs.spell.Tie as tie
 
 abbrev Inv-loop : tie.InvT-loop
-Inv-loop out n text₀ i₀ text i = (i ≤ n) × (length text ≡ 4609) × (length text ≡ length text₀)
+Inv-loop out n text₀ i₀ text i = (i ≤ n) × (length text ≡ 4609) × (length text ≡ length text₀) × (text ≡ put (flatMap byteDigits (tabulate i (λ k. getD out k 0))) 0 text₀)
 
 abbrev μ-loop : tie.MeasureT-loop
 μ-loop out n text₀ i₀ text i = n - i
 
 loop-holds : tie.Need-loop-holds Inv-loop μ-loop
-loop-holds c = omega arith
+unfolding tabulate flatMap put
+loop-holds c = (omega arith, c .before .pre .1, refl, refl)
 
 element-copy-out-b : tie.Need-element-copy-out-b Inv-loop μ-loop
 element-copy-out-b c = omega arith
@@ -47,7 +53,10 @@ loop-less : tie.Need-loop-less Inv-loop μ-loop
 loop-less c = omega arith
 
 loop-again : tie.Need-loop-again Inv-loop μ-loop
-loop-again c = simp length-set (omega arith)
+loop-again c =
+    let l = c .before .before .before .before .loop in
+    let a = c .before .before .before .before .before .before .args in
+    (omega arith, simp length-set (omega arith), simp length-set (omega arith), spelled-more (λ k. getD (now (a .out)) k 0) (now (a .text)) (l .text) (l .i) _ _ (l .inv .3) (c .before .digit .ensures) (c .digit2 .ensures))
 
 mul-text-3 : tie.Need-mul-text-3 Inv-loop μ-loop
 mul-text-3 c = omega arith
@@ -65,7 +74,11 @@ same-length : tie.Need-same-length Inv-loop μ-loop
 same-length c = simp length-set (omega arith)
 
 returns : tie.Need-returns Inv-loop μ-loop
-returns c = simp length-set (omega arith)
+returns c =
+    let l = c .before .loop in
+    let a = c .before .before .before .args in
+    let e : l .i ≡ a .n = omega arith in
+    (spelled-end (λ k. getD (now (a .out)) k 0) (now (a .text)) (l .text) (l .i) (l .inv .3) ∙ ap (λ z. put (lineOf z (now (a .out))) 0 (now (a .text))) e, omega arith)
 
 pub spell-spec : {M : Type 1} → statement M
 spell-spec =
