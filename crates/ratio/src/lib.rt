@@ -1,7 +1,9 @@
 // Five runs against 1:1:3:1:1, in f32 as the Rust has it, with the whole-number meaning of the test.
 ghost use mathlib.Core.Path.{_≡_};
+ghost use mathlib.Core.Bool.{not};
 ghost use Prim.Native.Nat.{_≤_, _<_};
 ghost use lib.Ieee.{lt};
+ghost use Rattle.lists.specs.Lists.{dist};
 ghost use Rattle.float.specs.Floats.{absOf};
 ghost use Rattle.float.specs.Steps.{minus32, whole32};
 ghost use Rattle.lcr_core.specs.Outcome.{maxSide};
@@ -39,6 +41,21 @@ fn near_three(c: u16, s: u32) -> bool
     !beyond(c, 3.0 * outer, 3.0 * tol)
 }
 
+// |x - y|
+fn apart(x: u32, y: u32) -> u32
+    ensures { λ r. ⌜ r ≡ dist x y ⌝ }
+{
+    if x < y { y - x } else { x - y }
+}
+
+// Whether the centre run c is not near three modules, in whole numbers. Most runs fail by it, and need no f32.
+fn far_from_three(c: u16, s: u32) -> bool
+    requires { ⌜ (c ≤ maxSide) × (s ≤ maxSide) ⌝ }
+    ensures { λ r. ⌜ r ≡ not (nearThree s c) ⌝ }
+{
+    33 * s < 20 * apart(4 * c as u32, 3 * s)
+}
+
 // The module of the runs a, b, c, d and e where they pass; nothing for a total over the longest side.
 pub fn matches_finder(a: u16, b: u16, c: u16, d: u16, e: u16) -> Match
     ensures { λ r. ⌜ r ≡ matchOf a b c d e ⌝ }
@@ -52,6 +69,9 @@ pub fn matches_finder(a: u16, b: u16, c: u16, d: u16, e: u16) -> Match
         return Match::Nothing;
     }
     if s == 0 {
+        return Match::Nothing;
+    }
+    if far_from_three(c, s) {
         return Match::Nothing;
     }
     let sides = near_one(a, s) & near_one(b, s) & near_one(d, s) & near_one(e, s);

@@ -1,6 +1,6 @@
 -- `ratio::matches_finder` meets its contract. Assumes nothing.
-use mathlib.Core.Path.{_≡_}
-use mathlib.Core.Bool.{Bool, true, false, cond, _&&_, and-false}
+use mathlib.Core.Path.{_≡_, refl, sym, _∙_}
+use mathlib.Core.Bool.{Bool, true, false, cond, not, _&&_, and-false}
 use Prim.Native.Nat.{ℕ, _+_, _≤_, _<_}
 use native.Mathlib.Omega.{arith}
 use borrow.Author.Tests.{lt-leb, le-leb, le-ltb, lt-ltb}
@@ -11,6 +11,13 @@ use Rattle.ratio.proofs.Tolerance.{in-float}
 use borrow.Author.Needs.{needs}
 use Rattle.ratio.proofs.matches_finder.Statement.{statement}
 use Rattle.ratio.proofs.matches_finder.Tie as tie
+
+no-three : (s c : ℕ) → not (nearThree s c) ≡ true → nearThree s c ≡ false
+no-three s c h = go (nearThree s c) h
+  where
+    go : (v : Bool) → not v ≡ true → v ≡ false
+    go true e = sym e
+    go false e = refl
 
 -- ---- the rule, by the tests that lead to each answer; the code has the total as s + c
 module _ (a b c d e : ℕ) where
@@ -42,6 +49,9 @@ module _ (a b c d e : ℕ) where
         let n : a + b + d + e + c ≡ a + b + c + d + e = omega arith in
         rw (n, le-leb (a + b + c + d + e) maxSide at-most, le-leb 7 (a + b + c + d + e) at-least, lt-ltb 0 (a + b + d + e) p, k)
 
+    far : (a + b + d + e ≡ 0 → ⊥) → not (nearThree (a + b + d + e) c) ≡ true → Nothing ≡ matchOf a b c d e
+    far z k = let s = a + b + d + e in near false z (rw (no-three s c k, and-false (nearOne s a && nearOne s b && nearOne s d && nearOne s e)))
+
 add-s : tie.Need-add-s
 add-s c = search needs
 
@@ -63,6 +73,9 @@ returns-2 c = many _ _ _ _ _ (c .if2 .taken)
 returns-3 : tie.Need-returns-3
 returns-3 c = empty _ _ _ _ _ (c .before .before .if1 .left) (c .before .if2 .left) (c .if3 .taken)
 
+far-from-three-requires : tie.Need-far-from-three-requires
+far-from-three-requires c κs = search needs
+
 near-one-requires : tie.Need-near-one-requires
 near-one-requires c κs = search needs
 
@@ -78,22 +91,25 @@ near-one-requires-4 c κs = search needs
 near-three-requires : tie.Need-near-three-requires
 near-three-requires c κs = search needs
 
-int-to-float-t21 : tie.Need-int-to-float-t21
-int-to-float-t21 c = in-float _ (omega (arith, c .before .before .before .before .before .before .before .before .if2 .left))
+int-to-float-t22 : tie.Need-int-to-float-t22
+int-to-float-t22 c = in-float _ (omega (arith, c .before .before .before .before .before .before .before .before .before .before .if2 .left))
 
 -- what the five tests say together
 tested : (c : tie.After-near-three) (t : Bool)
     → (c .before .before .before .before .near-one .result && c .before .before .before .near-one2 .result && c .before .before .near-one3 .result && c .before .near-one4 .result && c .near-three .result ≡ t)
-    → let a = c .before .before .before .before .before .before .before .before .args in cond t (Module (moduleOf (a .a + a .b + a .d + a .e + a .c))) Nothing ≡ matchOf (a .a) (a .b) (a .c) (a .d) (a .e)
+    → let a = c .before .before .before .before .before .before .before .before .before .before .args in cond t (Module (moduleOf (a .a + a .b + a .d + a .e + a .c))) Nothing ≡ matchOf (a .a) (a .b) (a .c) (a .d) (a .e)
 tested c t h =
-    near _ _ _ _ _ (c .before .before .before .before .before .before .before .if1 .left) (c .before .before .before .before .before .before .if2 .left) t (c .before .before .before .before .before .if3 .left)
+    near _ _ _ _ _ (c .before .before .before .before .before .before .before .before .before .if1 .left) (c .before .before .before .before .before .before .before .before .if2 .left) t (c .before .before .before .before .before .before .before .if3 .left)
     (rw (← c .before .before .before .before .near-one .ensures, ← c .before .before .before .near-one2 .ensures, ← c .before .before .near-one3 .ensures, ← c .before .near-one4 .ensures, ← c .near-three .ensures) h)
 
 returns-4 : tie.Need-returns-4
-returns-4 c = tested (c .before .before) true (c .before .if4 .taken)
+returns-4 c = far _ _ _ _ _ (c .before .before .before .before .if1 .left) (c .before .before .before .if2 .left) (c .before .before .if3 .left) (sym (c .before .far-from-three .ensures) ∙ c .if4 .taken)
 
 returns-5 : tie.Need-returns-5
-returns-5 c = tested (c .before) false (c .if4 .left)
+returns-5 c = tested (c .before .before) true (c .before .if5 .taken)
+
+returns-6 : tie.Need-returns-6
+returns-6 c = tested (c .before) false (c .if5 .left)
 
 pub matches-finder-spec : {M : Type 1} → statement M
 matches-finder-spec =
@@ -106,11 +122,13 @@ matches-finder-spec =
     returns
     returns-2
     returns-3
+    far-from-three-requires
+    returns-4
     near-one-requires
     near-one-requires-2
     near-one-requires-3
     near-one-requires-4
     near-three-requires
-    int-to-float-t21
-    returns-4
-    returns-5)
+    int-to-float-t22
+    returns-5
+    returns-6)
