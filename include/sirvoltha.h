@@ -36,7 +36,7 @@ enum { PLATE_GRAY8 = 1, PLATE_RGB8 = 3, PLATE_RGBA8 = 4 };
 #define PLATE_BLOCKS(w, h) ((((size_t)(w) + 7) / 8) * (((size_t)(h) + 7) / 8))
 #define PLATE_DETECTION_BYTES 367
 
-/* A call takes less stack than this, whatever the picture: 28,872 bytes and what memcpy takes (README.md). */
+/* A call takes less stack than this, whatever the picture: 28,896 bytes and what memcpy takes (README.md). */
 #define PLATE_STACK_BYTES 32768
 
 /* Looks for plates in a picture.
