@@ -1,6 +1,6 @@
 -- What the definitions say, in document 01's words. Assumes nothing.
 use mathlib.Core.Path.{_≡_, refl}
-use mathlib.Core.Bool.{true}
+use mathlib.Core.Bool.{Bool, true, false, cond, _||_}
 use mathlib.Core.List.{List, _∷_}
 use Prim.Native.Nat.{ℕ, _+_}
 use native.Mathlib.Omega.{arith}
@@ -22,9 +22,30 @@ use Rattle.alignment.proofs.First.{FirstBest}
 use Rattle.alignment.proofs.Sweeps.{below, steps, Placed, sites, sweep-first, sweep-placed}
 
 -- a not-a-number coordinate reads as coordinate 0
+inside-nan : (n : ℕ) → outsideOf n nan ≡ false
+unfolding outsideOf lt
+inside-nan n = rw le-nan
+
 pub nan-tap : (bits : List ℕ) (w h : ℕ) (v : Votes) → tapped bits w h v (point nan nan) ≡ record { seen = v .seen + 1; dark = v .dark + bit (darkAt bits w h 0 0) }
 unfolding tapped outsideOf pixelAt lt toUnsigned
 nan-tap bits w h v = rw (le-nan, le-nan)
+
+-- also where only x, or only y, is one
+pub nan-x : (bits : List ℕ) (w h : ℕ) (v : Votes) (y : Float)
+    → tapped bits w h v (point nan y) ≡ cond (outsideOf h y) v (record { seen = v .seen + 1; dark = v .dark + bit (darkAt bits w h 0 (toUnsigned 32 y)) })
+unfolding tapped outsideOf pixelAt lt toUnsigned
+nan-x bits w h v y = rw le-nan
+
+pub nan-y : (bits : List ℕ) (w h : ℕ) (v : Votes) (x : Float)
+    → tapped bits w h v (point x nan) ≡ cond (outsideOf w x) v (record { seen = v .seen + 1; dark = v .dark + bit (darkAt bits w h (toUnsigned 32 x) 0) })
+unfolding tapped pixelAt toUnsigned
+nan-y bits w h v x = rw (inside-nan h) (go (outsideOf w x))
+  where
+    go : (b : Bool)
+        → cond (b || false) v (record { seen = v .seen + 1; dark = v .dark + bit (darkAt bits w h (toUnsigned 32 x) 0) })
+        ≡ cond b v (record { seen = v .seen + 1; dark = v .dark + bit (darkAt bits w h (toUnsigned 32 x) 0) })
+    go true = refl
+    go false = refl
 
 -- none below version 2
 pub match-one : (bits : List ℕ) (w h : ℕ) (t : Transform) → matchedOf bits w h t 1 ≡ Missing

@@ -2,55 +2,62 @@
 use mathlib.Core.Path.{_≡_, refl, sym, _∙_, ap}
 use mathlib.Core.Bool.{Bool, true, false, cond}
 use mathlib.Core.List.{List, []}
-use Prim.Native.Nat.{ℕ, zero, suc, _≤_}
-use native.Mathlib.Omega.{arith}
-use lib.ListN.{length}
-use borrow.Author.Tests.{ne-eqb}
+use Prim.Native.Nat.{ℕ, zero, suc, _*_}
+use lib.ListN.{length, take, drop}
+use lib.Seq.{take-at}
 use Rattle.lcr_core.specs.Outcome.{unless}
-use Rattle.lcr_core.proofs.Checks.{unless-refused, unless-done}
+use Rattle.lcr_core.proofs.Checks.{unless-done}
+use Rattle.binary.specs.Binary.{bytesOf}
 use Rattle.candidates.specs.declared.Answer.{Answer}
 use Rattle.candidates.specs.declared.Detections.{Detections}
 use Rattle.candidates.specs.Candidates.{tableOf, answered, detectAnswer}
+use Rattle.candidates.proofs.Tails.{answer-tail}
 use Rattle.finders.specs.Answer.{isOver}
 use Rattle.finders.specs.Search.{found}
 use Rattle.stages.specs.Stages.{stagesRefusal}
-use Rattle.chain.specs.Chain.{chainAnswer, leftAfter}
-use Rattle.chain.proofs.Theorems.{at-most-five, six-is-left}
+use Rattle.stages.specs.Pictures.{denoisedPicture, written, leftAfter}
+use Rattle.stages.proofs.Theorems.{length-denoised}
+use Rattle.chain.specs.Chain.{chainOf, chainAnswer}
+use Rattle.chain.proofs.Theorems.{six-is-left}
 
 -- where the stages refuse with m, and where they don't
-module _ (m : ℕ) (bits : List ℕ) (w h : ℕ) where
-  pub chain-refused : (n : ℕ) (d : Detections) → n ≡ m → (n ≡ 0 → ⊥) → d ≡ tableOf [] → record { refusal = n; detections = d } ≡ chainAnswer m bits w h
+module _ (m : ℕ) (p : List ℕ) (w h s f : ℕ) where
+  pub chain-refused : (n : ℕ) (d : Detections) → n ≡ m → (n ≡ 0 → ⊥) → d ≡ tableOf [] → record { refusal = n; detections = d } ≡ chainAnswer m p w h s f
   unfolding chainAnswer
   chain-refused n d e z g = go m e
     where
-      go : (m : ℕ) → n ≡ m → record { refusal = n; detections = d } ≡ unless m (answered m []) (detectAnswer bits w h)
+      go : (m : ℕ) → n ≡ m → record { refusal = n; detections = d } ≡ unless m (answered m []) (chainOf p w h s f)
       go zero e = absurd (z e)
       go (suc k) e = rw (e, g)
 
-  pub chain-done : (r : Answer) → m ≡ 0 → r ≡ detectAnswer bits w h → r ≡ chainAnswer m bits w h
+  pub chain-done : (r : Answer) → m ≡ 0 → r ≡ chainOf p w h s f → r ≡ chainAnswer m p w h s f
   unfolding chainAnswer
-  chain-done r e g = g ∙ unless-done m (answered m []) (detectAnswer bits w h) e
+  chain-done r e g = g ∙ unless-done m (answered m []) (chainOf p w h s f) e
 
--- ---- what is left of a slice, by the number n that the chain answers where the stages give m
-pub left-old : (n : ℕ) (old new : List ℕ) → (n ≡ 0 → ⊥) → n ≤ 5 → leftAfter n old new ≡ old
-unfolding leftAfter
-left-old n old new z l = let s : n ≡ 6 → ⊥ = λ e. omega arith in rw (ne-eqb n 0 z, ne-eqb n 6 s)
+  -- the denoised bits stand in front of what the slice held behind them, which is not read
+  bits-first : m ≡ 0 → (old done : List ℕ) → done ≡ leftAfter m (denoisedPicture p w h s f) old → take (bytesOf (w * h)) done ≡ denoisedPicture p w h s f
+  unfolding leftAfter written
+  bits-first z old done e =
+      let d = denoisedPicture p w h s f in
+      let k : leftAfter m d old ≡ written d old = ap (λ (m : ℕ). leftAfter m d old) z in
+      ap (take (bytesOf (w * h))) (e ∙ k) ∙ take-at d (drop (length d) old) (bytesOf (w * h)) (length-denoised p w h s f)
 
-pub left-new : (b : Bool) (old new : List ℕ) → leftAfter (cond b 6 0) old new ≡ new
+  pub chained : m ≡ 0 → (old done : List ℕ) → done ≡ leftAfter m (denoisedPicture p w h s f) old → (r : Answer) → r ≡ detectAnswer done w h → r ≡ chainOf p w h s f
+  unfolding chainOf
+  chained z old done e r a = a ∙ sym (answer-tail done w h) ∙ ap (λ (d : List ℕ). detectAnswer d w h) (bits-first z old done e)
+
+-- ---- what is left of a slice, by the number that the chain answers where the stages give m
+pub left-as : (m n : ℕ) → n ≡ m → (x new old : List ℕ) → x ≡ leftAfter m new old → x ≡ leftAfter n new old
+left-as m n p x new old g = g ∙ ap (λ (k : ℕ). leftAfter k new old) (sym p)
+
+left-six : (b : Bool) (new old : List ℕ) → leftAfter 0 new old ≡ leftAfter (cond b 6 0) new old
 unfolding leftAfter
-left-new true old new = refl
-left-new false old new = refl
+left-six true new old = refl
+left-six false new old = refl
 
 module _ (len w h s f gray bits denoised : ℕ) (work : List ℕ) (m : ℕ) (e : m ≡ stagesRefusal len w h s f gray bits denoised work) where
-  pub left-refused : (n : ℕ) → n ≡ m → (n ≡ 0 → ⊥) → (x old new : List ℕ) → x ≡ unless m old new → x ≡ leftAfter n old new
-  left-refused n p z x old new g =
-      let l : n ≤ 5 = omega (arith, at-most-five len w h s f gray bits denoised work) in
-      g ∙ ap (λ (k : ℕ). unless k old new) (sym p) ∙ sym (unless-refused n old new z) ∙ sym (left-old n old new z l)
-
-  pub left-done : (done : List ℕ) (r : Answer) → length done ≡ denoised → m ≡ 0 → r ≡ detectAnswer done w h → (x old new : List ℕ) → x ≡ unless m old new
-      → x ≡ leftAfter (r .refusal) old new
-  unfolding detectAnswer
-  left-done done r k z a x old new g =
-      let q : stagesRefusal len w h s f gray bits (length done) work ≡ 0 = ap (λ d. stagesRefusal len w h s f gray bits d work) k ∙ sym e ∙ z in
-      let t : r .refusal ≡ cond (isOver (found done w h)) 6 0 = ap (λ (r : Answer). r .refusal) a ∙ six-is-left len w h s f gray bits done work q in
-      g ∙ sym (unless-done m old new z) ∙ sym (left-new (isOver (found done w h)) old new) ∙ ap (λ (k : ℕ). leftAfter k old new) (sym t)
+  pub left-done : (p : List ℕ) (r : Answer) → m ≡ 0 → r ≡ chainOf p w h s f → (x new old : List ℕ) → x ≡ leftAfter m new old → x ≡ leftAfter (r .refusal) new old
+  left-done p r z a x new old g =
+      let b = isOver (found (denoisedPicture p w h s f) w h) in
+      let t : r .refusal ≡ cond b 6 0 = ap (λ (r : Answer). r .refusal) a ∙ six-is-left p w h s f len gray bits denoised work (sym e ∙ z) in
+      g ∙ ap (λ (k : ℕ). leftAfter k new old) z ∙ left-six b new old ∙ ap (λ (k : ℕ). leftAfter k new old) (sym t)

@@ -2,16 +2,8 @@
 use candidates::Answer;
 ghost use mathlib.Core.Path.{_≡_};
 ghost use mathlib.Core.List.{_∷_, []};
-ghost use Prim.Native.Nat.{_*_};
-ghost use lib.ListN.{length};
-ghost use Rattle.lists.specs.Lists.{filled};
-ghost use Rattle.binary.specs.Binary.{byteOf, bytesOf};
-ghost use Rattle.image.specs.Gray.{grayAt};
-ghost use Rattle.image.specs.Denoise.{denoisedAt};
-ghost use Rattle.blocks.specs.Blocks.{blocksIn, meanAt, leastAt, greatestAt, edgeAt, nearAt};
-ghost use Rattle.binarize.specs.Binarize.{isDark};
-ghost use Rattle.stages.specs.Stages.{stagesRefusal};
-ghost use Rattle.chain.specs.Chain.{chainAnswer, leftAfter};
+ghost use Rattle.stages.specs.Pictures.{grayAfter, bitsAfter, denoisedAfter, meansAfter, leastAfter, greatestAfter, edgesAfter, nearsAfter};
+ghost use Rattle.chain.specs.Chain.{wholeAnswer};
 
 pub mod entry;
 
@@ -32,24 +24,16 @@ pub fn chain(
     edges: &mut [u8],
     nears: &mut [u8],
 ) -> Answer
-    ensures answer { λ r. ⌜ r ≡ chainAnswer (stagesRefusal (length (now (picture .entry))) width height stride format (length (now (gray .entry))) (length (now (bits .entry))) (length (now (denoised .entry)))
-        (length (now (means .entry)) ∷ length (now (least .entry)) ∷ length (now (greatest .entry)) ∷ length (now (edges .entry)) ∷ length (now (nears .entry)) ∷ [])) (now (denoised .exit)) width height ⌝ }
-    ensures gray { λ r. ⌜ now (gray .exit) ≡ leftAfter (r .refusal) (now (gray .entry))
-        (filled (width * height) (grayAt (now (picture .entry)) width stride format) (now (gray .entry))) ⌝ }
-    ensures bits { λ r. ⌜ now (bits .exit) ≡ leftAfter (r .refusal) (now (bits .entry))
-        (filled (bytesOf (width * height)) (byteOf (isDark (now (gray .exit)) width height)) (now (bits .entry))) ⌝ }
-    ensures denoised { λ r. ⌜ now (denoised .exit) ≡ leftAfter (r .refusal) (now (denoised .entry))
-        (filled (bytesOf (width * height)) (byteOf (denoisedAt (now (bits .exit)) width height)) (now (denoised .entry))) ⌝ }
-    ensures means { λ r. ⌜ now (means .exit) ≡ leftAfter (r .refusal) (now (means .entry))
-        (filled (blocksIn width height) (meanAt (now (gray .exit)) width height) (now (means .entry))) ⌝ }
-    ensures least { λ r. ⌜ now (least .exit) ≡ leftAfter (r .refusal) (now (least .entry))
-        (filled (blocksIn width height) (leastAt (now (gray .exit)) width height) (now (least .entry))) ⌝ }
-    ensures greatest { λ r. ⌜ now (greatest .exit) ≡ leftAfter (r .refusal) (now (greatest .entry))
-        (filled (blocksIn width height) (greatestAt (now (gray .exit)) width height) (now (greatest .entry))) ⌝ }
-    ensures edges { λ r. ⌜ now (edges .exit) ≡ leftAfter (r .refusal) (now (edges .entry))
-        (filled (blocksIn width height) (edgeAt (now (gray .exit)) width height) (now (edges .entry))) ⌝ }
-    ensures nears { λ r. ⌜ now (nears .exit) ≡ leftAfter (r .refusal) (now (nears .entry))
-        (filled (blocksIn width height) (nearAt (now (gray .exit)) width height) (now (nears .entry))) ⌝ }
+    ensures answer { λ r. ⌜ r ≡ wholeAnswer (now (picture .entry)) width height stride format (now (gray .entry)) (now (bits .entry)) (now (denoised .entry))
+        (now (means .entry) ∷ now (least .entry) ∷ now (greatest .entry) ∷ now (edges .entry) ∷ now (nears .entry) ∷ []) ⌝ }
+    ensures gray { λ r. ⌜ now (gray .exit) ≡ grayAfter (r .refusal) (now (picture .entry)) width height stride format (now (gray .entry)) ⌝ }
+    ensures bits { λ r. ⌜ now (bits .exit) ≡ bitsAfter (r .refusal) (now (picture .entry)) width height stride format (now (bits .entry)) ⌝ }
+    ensures denoised { λ r. ⌜ now (denoised .exit) ≡ denoisedAfter (r .refusal) (now (picture .entry)) width height stride format (now (denoised .entry)) ⌝ }
+    ensures means { λ r. ⌜ now (means .exit) ≡ meansAfter (r .refusal) (now (picture .entry)) width height stride format (now (means .entry)) ⌝ }
+    ensures least { λ r. ⌜ now (least .exit) ≡ leastAfter (r .refusal) (now (picture .entry)) width height stride format (now (least .entry)) ⌝ }
+    ensures greatest { λ r. ⌜ now (greatest .exit) ≡ greatestAfter (r .refusal) (now (picture .entry)) width height stride format (now (greatest .entry)) ⌝ }
+    ensures edges { λ r. ⌜ now (edges .exit) ≡ edgesAfter (r .refusal) (now (picture .entry)) width height stride format (now (edges .entry)) ⌝ }
+    ensures nears { λ r. ⌜ now (nears .exit) ≡ nearsAfter (r .refusal) (now (picture .entry)) width height stride format (now (nears .entry)) ⌝ }
 {
     let n = lcr_core::number(stages::stages(
         picture,

@@ -1,6 +1,6 @@
 -- The refusal 6 and the ranking in document 01's words, as corollaries of the definitions. Assumes nothing.
 use mathlib.Core.Path.{_≡_, refl, sym, ap, _∙_}
-use mathlib.Core.Bool.{Bool, true, false, cond}
+use mathlib.Core.Bool.{Bool, true, false, cond, true≢false}
 use mathlib.Core.List.{List, [], _∷_, _++_, append-assoc, append-nil}
 use mathlib.Core.Logic.{_⊎_, inl, inr}
 use Prim.Native.Nat.{ℕ, suc, _+_, _≤_, _<_}
@@ -11,10 +11,13 @@ use lib.ListN.{length}
 use borrow.Author.Tests.{lt-leb, leb-true, leb-false, ltb-true, ltb-false, eqb-true, ne-eqb}
 use Rattle.lists.specs.Lists.{Each, folded, those}
 use Rattle.lists.proofs.Filters.{each-map, those-none, those-append}
+use Rattle.lcr_core.specs.Outcome.{zeroSide, largeSide}
+use Rattle.binary.specs.Refusal.{shortBits, bitsRefusal}
 use Rattle.geometry.specs.declared.Finder.{Finder}
-use Rattle.finders.specs.Held.{Sighting, held, over, within, join, place, merge, mergeNext}
+use Rattle.finders.specs.Held.{Sighting, Held, held, over, within, join, place, merge, mergeNext}
 use Rattle.finders.specs.Search.{maxFinders, sightings, found}
 use Rattle.finders.specs.Rank.{stays, insert, ranked}
+use Rattle.finders.specs.Answer.{isOver, findRefusal, answerOf}
 
 -- ---- 6: a hit is one too many if and only if it falls within no held finder while the table is full, for a table of any number of places
 abbrev None : Sighting → List Finder → Type 0
@@ -84,14 +87,37 @@ over-if limit fs (s ∷ ss) few (inr r) = go (leb (length (place fs s)) limit) r
     go true e next = rw (merge-by limit fs s true e) (next (leb-true (length (place fs s)) limit e))
     go false e next = rw (merge-by limit fs s false e) (over-stays limit ss)
 
--- of a picture: 6 where, and only where, a confirmed hit falls within no held finder while 128 are held
-pub six-only-if : (bits : List ℕ) (w h : ℕ) → found bits w h ≡ over → Overflows maxFinders [] (sightings bits w h)
-unfolding found
-six-only-if bits w h e = over-only-if maxFinders [] (sightings bits w h) (omega arith) e
+-- 1, 2 and 4 come before it
+abbrev first : Bool → Bool → Bool → ℕ → ℕ
+first z l s rest = cond z 1 (cond l 2 (cond s 4 rest))
 
-pub six-if : (bits : List ℕ) (w h : ℕ) → Overflows maxFinders [] (sightings bits w h) → found bits w h ≡ over
-unfolding found
-six-if bits w h o = over-if maxFinders [] (sightings bits w h) (omega arith) o
+is-over : (s : Held) → isOver s ≡ true → s ≡ over
+is-over over e = refl
+is-over (held fs) e = absurd (true≢false (sym e))
+
+-- of a picture: `find_finders` answers 6 only where it is not refused by 1, 2 or 4, and a confirmed hit falls within no held finder while 128 are held
+pub six-only-if : (bits : List ℕ) (w h : ℕ) → answerOf bits w h .refusal ≡ 6 → (bitsRefusal (length bits) w h ≡ 0) × Overflows maxFinders [] (sightings bits w h)
+unfolding answerOf findRefusal bitsRefusal found
+six-only-if bits w h e = go (zeroSide w h) (largeSide w h) (shortBits (length bits) w h) (isOver (found bits w h)) refl e
+  where
+    go : (z l s o : Bool) → isOver (found bits w h) ≡ o → first z l s (cond o 6 0) ≡ 6
+        → (first z l s 0 ≡ 0) × Overflows maxFinders [] (sightings bits w h)
+    go true l s o p q = absurd (omega arith)
+    go false true s o p q = absurd (omega arith)
+    go false false true o p q = absurd (omega arith)
+    go false false false true p q = (refl, over-only-if maxFinders [] (sightings bits w h) (omega arith) (is-over (found bits w h) p))
+    go false false false false p q = absurd (omega arith)
+
+-- and wherever this is so
+pub six-if : (bits : List ℕ) (w h : ℕ) → bitsRefusal (length bits) w h ≡ 0 → Overflows maxFinders [] (sightings bits w h) → answerOf bits w h .refusal ≡ 6
+unfolding answerOf findRefusal bitsRefusal found
+six-if bits w h e o = go (zeroSide w h) (largeSide w h) (shortBits (length bits) w h) (found bits w h) (over-if maxFinders [] (sightings bits w h) (omega arith) o) e
+  where
+    go : (z l s : Bool) (f : Held) → f ≡ over → first z l s 0 ≡ 0 → first z l s (cond (isOver f) 6 0) ≡ 6
+    go true l s f p q = absurd (omega arith)
+    go false true s f p q = absurd (omega arith)
+    go false false true f p q = absurd (omega arith)
+    go false false false f p q = ap (λ (f : Held). cond (isOver f) 6 0) p
 
 -- ---- most first
 abbrev Below : ℕ → List Finder → Type 0

@@ -1,1 +1,4 @@
 pub mod Refusals
+pub mod Tails
+pub mod Closed
+pub mod Theorems

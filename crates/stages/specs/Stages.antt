@@ -2,8 +2,9 @@
 -- 1, 2, 3, 4, 5, 6"; here are its 1 to 5. Definitions only.
 use Prim.Native.Nat.{ℕ, _*_}
 use mathlib.Core.Bool.{Bool, _||_}
-use mathlib.Core.List.{List, [], _∷_}
+use mathlib.Core.List.{List, [], _∷_, map}
 use lib.Dec.{ltb}
+use lib.ListN.{length}
 use Rattle.lcr_core.specs.Outcome.{firstOf, zeroSide, largeSide}
 use Rattle.binary.specs.Binary.{bytesOf}
 use Rattle.blocks.specs.Blocks.{blocksIn, under}
@@ -24,3 +25,7 @@ stagesRefusal len w h s f gray bits denoised work =
     ∷ record { refuses = shortPicture len w h s f; number = 4 }
     ∷ record { refuses = shortRoom w h gray bits denoised work; number = 5 }
     ∷ [])
+
+-- the same, from the picture and the lent slices
+abbrev pub refusalOf : List ℕ → ℕ → ℕ → ℕ → ℕ → List ℕ → List ℕ → List ℕ → List (List ℕ) → ℕ
+refusalOf p w h s f gray bits denoised work = stagesRefusal (length p) w h s f (length gray) (length bits) (length denoised) (map length work)

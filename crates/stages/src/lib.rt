@@ -2,16 +2,9 @@
 use lcr_core::Outcome;
 ghost use mathlib.Core.Path.{_≡_};
 ghost use mathlib.Core.List.{_∷_, []};
-ghost use Prim.Native.Nat.{_*_};
-ghost use lib.ListN.{length};
-ghost use Rattle.lists.specs.Lists.{filled};
-ghost use Rattle.lcr_core.specs.Outcome.{numberOf, unless};
-ghost use Rattle.binary.specs.Binary.{byteOf, bytesOf};
-ghost use Rattle.image.specs.Gray.{grayAt};
-ghost use Rattle.image.specs.Denoise.{denoisedAt};
-ghost use Rattle.blocks.specs.Blocks.{blocksIn, meanAt, leastAt, greatestAt, edgeAt, nearAt};
-ghost use Rattle.binarize.specs.Binarize.{isDark};
-ghost use Rattle.stages.specs.Stages.{stagesRefusal};
+ghost use Rattle.lcr_core.specs.Outcome.{numberOf};
+ghost use Rattle.stages.specs.Stages.{stagesRefusal, refusalOf};
+ghost use Rattle.stages.specs.Pictures.{grayAfter, bitsAfter, denoisedAfter, meansAfter, leastAfter, greatestAfter, edgesAfter, nearsAfter};
 
 // What `stages` answers for `len` picture bytes and lent slices of these lengths.
 pub fn check_stages(
@@ -68,16 +61,16 @@ fn run_checked(
     edges: &mut [u8],
     nears: &mut [u8],
 )
-    requires { ⌜ stagesRefusal (length (now picture)) width height stride format (length (now gray)) (length (now bits)) (length (now denoised)) (length (now means)
-        ∷ length (now least) ∷ length (now greatest) ∷ length (now edges) ∷ length (now nears) ∷ []) ≡ 0 ⌝ }
-    ensures gray { λ _. ⌜ now (gray .exit) ≡ filled (width * height) (grayAt (now (picture .entry)) width stride format) (now (gray .entry)) ⌝ }
-    ensures bits { λ _. ⌜ now (bits .exit) ≡ filled (bytesOf (width * height)) (byteOf (isDark (now (gray .exit)) width height)) (now (bits .entry)) ⌝ }
-    ensures denoised { λ _. ⌜ now (denoised .exit) ≡ filled (bytesOf (width * height)) (byteOf (denoisedAt (now (bits .exit)) width height)) (now (denoised .entry)) ⌝ }
-    ensures means { λ _. ⌜ now (means .exit) ≡ filled (blocksIn width height) (meanAt (now (gray .exit)) width height) (now (means .entry)) ⌝ }
-    ensures least { λ _. ⌜ now (least .exit) ≡ filled (blocksIn width height) (leastAt (now (gray .exit)) width height) (now (least .entry)) ⌝ }
-    ensures greatest { λ _. ⌜ now (greatest .exit) ≡ filled (blocksIn width height) (greatestAt (now (gray .exit)) width height) (now (greatest .entry)) ⌝ }
-    ensures edges { λ _. ⌜ now (edges .exit) ≡ filled (blocksIn width height) (edgeAt (now (gray .exit)) width height) (now (edges .entry)) ⌝ }
-    ensures nears { λ _. ⌜ now (nears .exit) ≡ filled (blocksIn width height) (nearAt (now (gray .exit)) width height) (now (nears .entry)) ⌝ }
+    requires { ⌜ refusalOf (now picture) width height stride format (now gray) (now bits) (now denoised)
+        (now means ∷ now least ∷ now greatest ∷ now edges ∷ now nears ∷ []) ≡ 0 ⌝ }
+    ensures gray { λ _. ⌜ now (gray .exit) ≡ grayAfter 0 (now (picture .entry)) width height stride format (now (gray .entry)) ⌝ }
+    ensures bits { λ _. ⌜ now (bits .exit) ≡ bitsAfter 0 (now (picture .entry)) width height stride format (now (bits .entry)) ⌝ }
+    ensures denoised { λ _. ⌜ now (denoised .exit) ≡ denoisedAfter 0 (now (picture .entry)) width height stride format (now (denoised .entry)) ⌝ }
+    ensures means { λ _. ⌜ now (means .exit) ≡ meansAfter 0 (now (picture .entry)) width height stride format (now (means .entry)) ⌝ }
+    ensures least { λ _. ⌜ now (least .exit) ≡ leastAfter 0 (now (picture .entry)) width height stride format (now (least .entry)) ⌝ }
+    ensures greatest { λ _. ⌜ now (greatest .exit) ≡ greatestAfter 0 (now (picture .entry)) width height stride format (now (greatest .entry)) ⌝ }
+    ensures edges { λ _. ⌜ now (edges .exit) ≡ edgesAfter 0 (now (picture .entry)) width height stride format (now (edges .entry)) ⌝ }
+    ensures nears { λ _. ⌜ now (nears .exit) ≡ nearsAfter 0 (now (picture .entry)) width height stride format (now (nears .entry)) ⌝ }
 {
     image::gray::gray_buffer(picture, width, height, stride, format, gray);
     binarize::binarize(
@@ -111,24 +104,16 @@ pub fn stages(
     edges: &mut [u8],
     nears: &mut [u8],
 ) -> Outcome
-    ensures refusal { λ r. ⌜ numberOf r ≡ stagesRefusal (length (now (picture .entry))) width height stride format (length (now (gray .entry))) (length (now (bits .entry))) (length (now (denoised .entry)))
-        (length (now (means .entry)) ∷ length (now (least .entry)) ∷ length (now (greatest .entry)) ∷ length (now (edges .entry)) ∷ length (now (nears .entry)) ∷ []) ⌝ }
-    ensures gray { λ r. ⌜ now (gray .exit) ≡ unless (numberOf r) (now (gray .entry))
-        (filled (width * height) (grayAt (now (picture .entry)) width stride format) (now (gray .entry))) ⌝ }
-    ensures bits { λ r. ⌜ now (bits .exit) ≡ unless (numberOf r) (now (bits .entry))
-        (filled (bytesOf (width * height)) (byteOf (isDark (now (gray .exit)) width height)) (now (bits .entry))) ⌝ }
-    ensures denoised { λ r. ⌜ now (denoised .exit) ≡ unless (numberOf r) (now (denoised .entry))
-        (filled (bytesOf (width * height)) (byteOf (denoisedAt (now (bits .exit)) width height)) (now (denoised .entry))) ⌝ }
-    ensures means { λ r. ⌜ now (means .exit) ≡ unless (numberOf r) (now (means .entry))
-        (filled (blocksIn width height) (meanAt (now (gray .exit)) width height) (now (means .entry))) ⌝ }
-    ensures least { λ r. ⌜ now (least .exit) ≡ unless (numberOf r) (now (least .entry))
-        (filled (blocksIn width height) (leastAt (now (gray .exit)) width height) (now (least .entry))) ⌝ }
-    ensures greatest { λ r. ⌜ now (greatest .exit) ≡ unless (numberOf r) (now (greatest .entry))
-        (filled (blocksIn width height) (greatestAt (now (gray .exit)) width height) (now (greatest .entry))) ⌝ }
-    ensures edges { λ r. ⌜ now (edges .exit) ≡ unless (numberOf r) (now (edges .entry))
-        (filled (blocksIn width height) (edgeAt (now (gray .exit)) width height) (now (edges .entry))) ⌝ }
-    ensures nears { λ r. ⌜ now (nears .exit) ≡ unless (numberOf r) (now (nears .entry))
-        (filled (blocksIn width height) (nearAt (now (gray .exit)) width height) (now (nears .entry))) ⌝ }
+    ensures refusal { λ r. ⌜ numberOf r ≡ refusalOf (now (picture .entry)) width height stride format (now (gray .entry)) (now (bits .entry)) (now (denoised .entry))
+        (now (means .entry) ∷ now (least .entry) ∷ now (greatest .entry) ∷ now (edges .entry) ∷ now (nears .entry) ∷ []) ⌝ }
+    ensures gray { λ r. ⌜ now (gray .exit) ≡ grayAfter (numberOf r) (now (picture .entry)) width height stride format (now (gray .entry)) ⌝ }
+    ensures bits { λ r. ⌜ now (bits .exit) ≡ bitsAfter (numberOf r) (now (picture .entry)) width height stride format (now (bits .entry)) ⌝ }
+    ensures denoised { λ r. ⌜ now (denoised .exit) ≡ denoisedAfter (numberOf r) (now (picture .entry)) width height stride format (now (denoised .entry)) ⌝ }
+    ensures means { λ r. ⌜ now (means .exit) ≡ meansAfter (numberOf r) (now (picture .entry)) width height stride format (now (means .entry)) ⌝ }
+    ensures least { λ r. ⌜ now (least .exit) ≡ leastAfter (numberOf r) (now (picture .entry)) width height stride format (now (least .entry)) ⌝ }
+    ensures greatest { λ r. ⌜ now (greatest .exit) ≡ greatestAfter (numberOf r) (now (picture .entry)) width height stride format (now (greatest .entry)) ⌝ }
+    ensures edges { λ r. ⌜ now (edges .exit) ≡ edgesAfter (numberOf r) (now (picture .entry)) width height stride format (now (edges .entry)) ⌝ }
+    ensures nears { λ r. ⌜ now (nears .exit) ≡ nearsAfter (numberOf r) (now (picture .entry)) width height stride format (now (nears .entry)) ⌝ }
 {
     let checked = check_stages(
         picture.len(),

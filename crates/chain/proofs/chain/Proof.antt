@@ -1,6 +1,6 @@
 -- `chain::chain` meets its contract. Assumes nothing.
 use mathlib.Core.Path.{sym, _∙_}
-use Rattle.chain.proofs.Chained.{chain-refused, chain-done, left-refused, left-done}
+use Rattle.chain.proofs.Chained.{chain-refused, chain-done, chained, left-as, left-done}
 use borrow.Author.Needs.{needs}
 use Rattle.chain.proofs.chain.Statement.{statement}
 use Rattle.chain.proofs.chain.Tie as tie
@@ -42,8 +42,8 @@ returns : tie.Need-returns
 returns c =
     let s = c .before .before .before .before .before .before .before .before .before .before .before .before .before .before .before .before .before .before .before .stages .ensures in
     let n = c .before .before .number .ensures in
-    let k = left-refused _ _ _ _ _ _ _ _ _ _ (s .0) _ n (c .before .if1 .taken) in
-    (chain-refused _ _ _ _ _ _ (n ∙ s .0) (c .before .if1 .taken) (c .no-detections .ensures), (k _ _ _ (s .1 .0), (k _ _ _ (s .1 .1 .0), (k _ _ _ (s .1 .1 .1 .0), (k _ _ _ (s .1 .1 .1 .1 .0), (k _ _ _ (s .1 .1 .1 .1 .1 .0), (k _ _ _ (s .1 .1 .1 .1 .1 .1 .0), (k _ _ _ (s .1 .1 .1 .1 .1 .1 .1 .0), k _ _ _ (s .1 .1 .1 .1 .1 .1 .1 .1)))))))))
+    let k = left-as _ _ n in
+    (chain-refused _ _ _ _ _ _ _ _ (n ∙ s .0) (c .before .if1 .taken) (c .no-detections .ensures), (k _ _ _ (s .1 .0), (k _ _ _ (s .1 .1 .0), (k _ _ _ (s .1 .1 .1 .0), (k _ _ _ (s .1 .1 .1 .1 .0), (k _ _ _ (s .1 .1 .1 .1 .1 .0), (k _ _ _ (s .1 .1 .1 .1 .1 .1 .0), (k _ _ _ (s .1 .1 .1 .1 .1 .1 .1 .0), k _ _ _ (s .1 .1 .1 .1 .1 .1 .1 .1)))))))))
 
 detect-candidates-requires : tie.Need-detect-candidates-requires
 detect-candidates-requires c κs = search needs
@@ -77,8 +77,9 @@ returns-2 c =
     let u = c .before .before .before .before .before .before .before .before .before .before .before .before .before .before .before .before .before .before .before .before .stages in
     let s = u .ensures in
     let z = sym (c .before .before .before .number .ensures) ∙ c .before .before .if1 .left in
-    let k = left-done _ _ _ _ _ _ _ _ _ _ (s .0) _ _ (u .kept .1 .1 .1 .1 .1 .1 .1 .0) z (c .detect-candidates .ensures) in
-    (chain-done _ _ _ _ _ (sym (s .0) ∙ z) (c .detect-candidates .ensures), (k _ _ _ (s .1 .0), (k _ _ _ (s .1 .1 .0), (k _ _ _ (s .1 .1 .1 .0), (k _ _ _ (s .1 .1 .1 .1 .0), (k _ _ _ (s .1 .1 .1 .1 .1 .0), (k _ _ _ (s .1 .1 .1 .1 .1 .1 .0), (k _ _ _ (s .1 .1 .1 .1 .1 .1 .1 .0), k _ _ _ (s .1 .1 .1 .1 .1 .1 .1 .1)))))))))
+    let a = chained _ _ _ _ _ _ z _ _ (s .1 .1 .1 .0) _ (c .detect-candidates .ensures) in
+    let k = left-done _ _ _ _ _ _ _ _ _ _ (s .0) _ _ z a in
+    (chain-done _ _ _ _ _ _ _ (sym (s .0) ∙ z) a, (k _ _ _ (s .1 .0), (k _ _ _ (s .1 .1 .0), (k _ _ _ (s .1 .1 .1 .0), (k _ _ _ (s .1 .1 .1 .1 .0), (k _ _ _ (s .1 .1 .1 .1 .1 .0), (k _ _ _ (s .1 .1 .1 .1 .1 .1 .0), (k _ _ _ (s .1 .1 .1 .1 .1 .1 .1 .0), k _ _ _ (s .1 .1 .1 .1 .1 .1 .1 .1)))))))))
 
 pub chain-spec : {M : Type 1} → statement M
 chain-spec =

@@ -2,6 +2,7 @@
 use mathlib.Core.Path.{sym, _∙_}
 use Rattle.lcr_core.proofs.Checks.{unless-done}
 use Rattle.stages.proofs.Refusals.{gray-done, denoised-done}
+use Rattle.stages.proofs.Closed.{gray-closed, bits-closed, denoised-closed, means-closed, least-closed, greatest-closed, edges-closed, nears-closed}
 use borrow.Author.Needs.{needs}
 use Rattle.stages.proofs.run_checked.Statement.{statement}
 use Rattle.stages.proofs.run_checked.Tie as tie
@@ -48,22 +49,9 @@ returns c =
     let e = b .binarize .ensures in
     let g = gray-done (a .picture .now) (a .gray .now) (a .bits .now) (a .denoised .now) _ _ _ _ _ (s .pre) _ (k .gray-buffer .ensures .1) in
     let z = e .0 ∙ g .1 in
-    let bits = e .1 .1 .1 .1 .1 .1 ∙ sym (unless-done _ _ _ z) in (
-      g .0,
-      (
-        bits,
-        (
-          denoised-done (a .picture .now) (a .gray .now) (a .bits .now) (a .denoised .now) _ _ _ _ _ (s .pre) _ _ _ bits (c .before .before .denoised .ensures .1),
-          (
-            e .1 .0 ∙ sym (unless-done _ _ _ z),
-            (
-              e .1 .1 .0 ∙ sym (unless-done _ _ _ z),
-              (e .1 .1 .1 .0 ∙ sym (unless-done _ _ _ z), (e .1 .1 .1 .1 .0 ∙ sym (unless-done _ _ _ z), e .1 .1 .1 .1 .1 .0 ∙ sym (unless-done _ _ _ z))),
-            ),
-          ),
-        ),
-      ),
-    )
+    let bits = e .1 .1 .1 .1 .1 .1 ∙ sym (unless-done _ _ _ z) in
+    let denoised = denoised-done (a .picture .now) (a .gray .now) (a .bits .now) (a .denoised .now) _ _ _ _ _ (s .pre) _ _ _ bits (c .before .before .denoised .ensures .1) in
+    (gray-closed _ _ _ _ _ _ _ (g .0), (bits-closed _ _ _ _ _ _ _ (g .0) _ _ bits, (denoised-closed _ _ _ _ _ _ _ (g .0) _ _ bits _ _ denoised, (means-closed _ _ _ _ _ _ _ (g .0) _ _ (e .1 .0 ∙ sym (unless-done _ _ _ z)), (least-closed _ _ _ _ _ _ _ (g .0) _ _ (e .1 .1 .0 ∙ sym (unless-done _ _ _ z)), (greatest-closed _ _ _ _ _ _ _ (g .0) _ _ (e .1 .1 .1 .0 ∙ sym (unless-done _ _ _ z)), (edges-closed _ _ _ _ _ _ _ (g .0) _ _ (e .1 .1 .1 .1 .0 ∙ sym (unless-done _ _ _ z)), nears-closed _ _ _ _ _ _ _ (g .0) _ _ (e .1 .1 .1 .1 .1 .0 ∙ sym (unless-done _ _ _ z)))))))))
 
 pub run-checked-spec : {M : Type 1} → statement M
 run-checked-spec =

@@ -1,7 +1,7 @@
 -- `stages::stages` meets its contract. Assumes nothing.
 use mathlib.Core.Path.{_≡_, sym, _∙_}
 use Rattle.lcr_core.specs.Outcome.{numberOf}
-use Rattle.lcr_core.proofs.Checks.{unless-refused}
+use Rattle.stages.proofs.Closed.{refused-left}
 use borrow.Author.Needs.{needs}
 use Rattle.stages.proofs.stages.Statement.{statement}
 use Rattle.stages.proofs.stages.Tie as tie
@@ -15,7 +15,9 @@ number-requires c κs = search needs
 returns : tie.Need-returns
 returns c =
     let r : numberOf (c .before .before .check-stages .result) ≡ 0 → ⊥ = λ e. c .if1 .taken (c .before .number .ensures ∙ e) in
-    (c .before .before .check-stages .ensures, (unless-refused _ _ _ r, (unless-refused _ _ _ r, (unless-refused _ _ _ r, (unless-refused _ _ _ r, (unless-refused _ _ _ r, (unless-refused _ _ _ r, (unless-refused _ _ _ r, unless-refused _ _ _ r))))))))
+    let e = c .before .before .check-stages .ensures in
+    let k = refused-left _ _ _ _ _ _ _ _ _ _ e r in
+    (e, (k _ _, (k _ _, (k _ _, (k _ _, (k _ _, (k _ _, (k _ _, k _ _))))))))
 
 run-checked-requires : tie.Need-run-checked-requires
 run-checked-requires c κs = search needs

@@ -1,4 +1,5 @@
 -- `chain::entry::plate_chain` meets its contract. Assumes nothing.
+use mathlib.Core.Path.{refl}
 use Rattle.lcr_core.proofs.Checks.{unless-refused}
 use Rattle.chain.proofs.EntryLaws.{entry-refused, untouched, entry-passed, entry-found}
 use borrow.Author.Needs.{needs}
@@ -52,7 +53,7 @@ returns-2 c =
     let s = c .before .before .before .before .before .before .before .before .before .before .before .before .before .before .before .before .before .before .before .before .before .before .chain .ensures in
     let n = c .before .before .before .before .before .before .before .before .before .before .before .before .before .before .before .before .before .before .before .before .before .before .before .before .before .before .before .before .before .before .before .before .check-entry .ensures in
     let z = c .before .before .before .before .before .before .before .before .before .before .before .before .before .before .before .before .before .before .before .before .before .before .before .before .before .before .before .before .before .before .before .if1 .left in
-    (entry-passed _ _ _ _ _ _ _ _ _ _ _ n z _ _ (s .0), (s .1 .0, (s .1 .1 .0, (s .1 .1 .1 .0, (s .1 .1 .1 .1 .0, (s .1 .1 .1 .1 .1 .0, (s .1 .1 .1 .1 .1 .1 .0, (s .1 .1 .1 .1 .1 .1 .1 .0, (s .1 .1 .1 .1 .1 .1 .1 .1, entry-found _ _ _ _ _ _ _ _ _ _ _ n z _ _ (s .0) (c .before .before .before .before .before .if2 .taken) _ _ (c .before .before .put-detections .ensures))))))))))
+    (entry-passed _ _ _ _ _ _ _ _ _ _ _ n z _ _ (s .0), (s .1 .0, (s .1 .1 .0, (s .1 .1 .1 .0, (s .1 .1 .1 .1 .0, (s .1 .1 .1 .1 .1 .0, (s .1 .1 .1 .1 .1 .1 .0, (s .1 .1 .1 .1 .1 .1 .1 .0, (s .1 .1 .1 .1 .1 .1 .1 .1, entry-found _ _ _ _ _ _ _ _ _ _ _ n z _ _ (s .0) (c .before .before .before .before .before .if2 .taken) _ _ refl (c .before .before .put-detections .ensures))))))))))
 
 same-length-10 : tie.Need-same-length-10
 same-length-10 c = search needs
