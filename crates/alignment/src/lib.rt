@@ -3,6 +3,7 @@ use binary::refusal::check_bits;
 use geometry::Corners;
 use geometry::Marker;
 use geometry::build_transform;
+use lcr_core::Outcome;
 use lcr_core::number;
 use lcr_core::version::Checked;
 use lcr_core::version::Version;
@@ -35,7 +36,7 @@ fn check(len: usize, width: u32, height: u32, version: u8) -> u8
     }
     match Version::new(version) {
         Checked::Is(_) => 0,
-        Checked::Refused => 7,
+        Checked::Refused => number(Outcome::BadVersion),
     }
 }
 

@@ -6,6 +6,7 @@ use mathlib.Core.Bool.{Bool, _&&_, _||_}
 use mathlib.Core.List.{List, [], _∷_}
 use lib.Dec.{ltb}
 use Rattle.lcr_core.specs.Outcome.{firstOf, zeroSide, largeSide}
+use Rattle.lcr_core.specs.declared.Outcome.the-variants.{ZeroSide, LargeSide, ShortPicture, ShortOutput}
 use Rattle.binary.specs.Binary.{bytesOf}
 use Rattle.blocks.specs.Blocks.{at, blocksOn, blocksIn, meanAt, edgeAt, nearAt, under}
 use Rattle.binarize.specs.Levels.{levelAt}
@@ -22,8 +23,8 @@ isDark g w h = darkBy (meanAt g w h) (edgeAt g w h) (nearAt g w h) g w h
 unfoldable pub binarizeRefusal : ℕ → ℕ → ℕ → ℕ → List ℕ → ℕ
 binarizeRefusal len w h room work =
     firstOf
-    (record { refuses = zeroSide w h; number = 1 }
-    ∷ record { refuses = largeSide w h; number = 2 }
-    ∷ record { refuses = ltb len (w * h); number = 4 }
-    ∷ record { refuses = ltb room (bytesOf (w * h)) || under (blocksIn w h) work; number = 5 }
+    (record { refuses = zeroSide w h; outcome = ZeroSide }
+    ∷ record { refuses = largeSide w h; outcome = LargeSide }
+    ∷ record { refuses = ltb len (w * h); outcome = ShortPicture }
+    ∷ record { refuses = ltb room (bytesOf (w * h)) || under (blocksIn w h) work; outcome = ShortOutput }
     ∷ [])

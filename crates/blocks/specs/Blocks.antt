@@ -7,6 +7,7 @@ use lib.ListN.{length, getD}
 use lib.Dec.{ltb}
 use Rattle.lists.specs.Lists.{range, flatMap, folded}
 use Rattle.lcr_core.specs.Outcome.{firstOf, zeroSide, largeSide}
+use Rattle.lcr_core.specs.declared.Outcome.the-variants.{ZeroSide, LargeSide, ShortPicture, ShortOutput}
 
 -- ---- values of a list
 
@@ -100,8 +101,8 @@ under n (l ∷ ls) = ltb l n || under n ls
 unfoldable pub blocksRefusal : ℕ → ℕ → ℕ → List ℕ → ℕ
 blocksRefusal len w h work =
     firstOf
-    (record { refuses = zeroSide w h; number = 1 }
-    ∷ record { refuses = largeSide w h; number = 2 }
-    ∷ record { refuses = ltb len (w * h); number = 4 }
-    ∷ record { refuses = under (blocksIn w h) work; number = 5 }
+    (record { refuses = zeroSide w h; outcome = ZeroSide }
+    ∷ record { refuses = largeSide w h; outcome = LargeSide }
+    ∷ record { refuses = ltb len (w * h); outcome = ShortPicture }
+    ∷ record { refuses = under (blocksIn w h) work; outcome = ShortOutput }
     ∷ [])

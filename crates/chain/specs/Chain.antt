@@ -2,11 +2,11 @@
 -- slices hold the finished gray, bits, denoised bits and block values." The firmware's entry has "one more lent slice of at least 367 bytes (5 if shorter,
 -- untouched after 6)". Definitions only.
 use Prim.Native.Nat.{ℕ}
-use mathlib.Core.Bool.{cond}
-use mathlib.Core.List.{List, []}
+use mathlib.Core.List.{List, [], _∷_}
 use lib.Dec.{ltb}
 use lib.ListN.{length}
-use Rattle.lcr_core.specs.Outcome.{unless}
+use Rattle.lcr_core.specs.Outcome.{firstOf, unless}
+use Rattle.lcr_core.specs.declared.Outcome.the-variants.{ShortOutput}
 use Rattle.candidates.specs.declared.Answer.{Answer}
 use Rattle.candidates.specs.Candidates.{answered, detectAnswer}
 use Rattle.firmware.specs.Firmware.{firmwareBytes, firmwareSize}
@@ -24,7 +24,7 @@ chainAnswer n p w h s f = unless n (answered n []) (chainOf p w h s f)
 
 -- the refusal before a byte is written, where the stages refuse with n and the detections are lent len bytes: 5 also where these are too few
 unfoldable pub entryRefusal : ℕ → ℕ → ℕ
-entryRefusal n len = unless n n (cond (ltb len firmwareSize) 5 0)
+entryRefusal n len = unless n n (firstOf (record { refuses = ltb len firmwareSize; outcome = ShortOutput } ∷ []))
 
 -- `chain`: n is what the stages refuse for the picture and the lent slices
 abbrev pub wholeAnswer : List ℕ → ℕ → ℕ → ℕ → ℕ → List ℕ → List ℕ → List ℕ → List (List ℕ) → Answer

@@ -1,6 +1,9 @@
 // The whole chain for the unit's firmware, which is C: numbers and byte slices only, and the refusal's number for an answer.
+use lcr_core::Outcome;
+use lcr_core::number;
 ghost use mathlib.Core.Path.{_≡_};
 ghost use mathlib.Core.List.{_∷_, []};
+ghost use Rattle.lcr_core.specs.Outcome.{numberOf};
 ghost use Rattle.stages.specs.Stages.{stagesRefusal};
 ghost use Rattle.stages.specs.Pictures.{grayAfter, bitsAfter, denoisedAfter, meansAfter, leastAfter, greatestAfter, edgesAfter, nearsAfter};
 ghost use Rattle.chain.specs.Chain.{entryRefusal, entryAnswer, detectionsAfter};
@@ -21,10 +24,10 @@ fn check_entry(
     edges: usize,
     nears: usize,
     detections: usize,
-) -> u8
-    ensures { λ r. ⌜ r ≡ entryRefusal (stagesRefusal len width height stride format gray bits denoised (means ∷ least ∷ greatest ∷ edges ∷ nears ∷ [])) detections ⌝ }
+) -> Outcome
+    ensures { λ r. ⌜ numberOf r ≡ entryRefusal (stagesRefusal len width height stride format gray bits denoised (means ∷ least ∷ greatest ∷ edges ∷ nears ∷ [])) detections ⌝ }
 {
-    let n = lcr_core::number(stages::check_stages(
+    let checked = stages::check_stages(
         len,
         width,
         height,
@@ -38,14 +41,14 @@ fn check_entry(
         greatest,
         edges,
         nears,
-    ));
-    if n != 0 {
-        return n;
+    );
+    if number(checked) != 0 {
+        return checked;
     }
     if detections < firmware::SIZE {
-        return 5;
+        return Outcome::ShortOutput;
     }
-    0
+    Outcome::Done
 }
 
 // The chain, and its detections as bytes in `detections`. Refusals 1 to 5 come before a byte is written; after 6, too many finders, all but `detections`
@@ -79,7 +82,7 @@ pub extern "C" fn plate_chain(
     ensures nears { λ r. ⌜ now (nears .exit) ≡ nearsAfter r (now (picture .entry)) width height stride format (now (nears .entry)) ⌝ }
     ensures detections { λ r. ⌜ now (detections .exit) ≡ detectionsAfter r (now (picture .entry)) width height stride format (now (detections .entry)) ⌝ }
 {
-    let n = check_entry(
+    let n = number(check_entry(
         picture.len(),
         width,
         height,
@@ -94,7 +97,7 @@ pub extern "C" fn plate_chain(
         edges.len(),
         nears.len(),
         detections.len(),
-    );
+    ));
     if n != 0 {
         return n;
     }

@@ -5,10 +5,13 @@ use mathlib.Core.List.{List, []}
 use Prim.Native.Nat.{ℕ, _+_, _≤_}
 use native.Mathlib.Omega.{arith}
 use lib.ListN.{length}
-use Rattle.lcr_core.specs.Outcome.{zeroSide, largeSide, unless}
+use Rattle.lcr_core.specs.Outcome.{numberOf, zeroSide, largeSide, unless}
+use Rattle.lcr_core.specs.declared.Outcome.{Outcome}
+use Rattle.lcr_core.specs.declared.Outcome.the-variants.{FullTable}
 use Rattle.lcr_core.specs.Passed.{Sides}
 use Rattle.binary.specs.Refusal.{shortBits, bitsRefusal}
 use Rattle.finders.specs.declared.Finders.{Finders}
+use Rattle.finders.specs.declared.Found.{Found}
 use Rattle.finders.specs.declared.held.Merged.{Merged}
 use Rattle.finders.specs.Held.{Held, held, over}
 use Rattle.finders.specs.Search.{maxFinders, found}
@@ -18,7 +21,7 @@ use Rattle.finders.specs.Inner.{axisMost, mergedOf, heldOf, Sound, Fine,
 use Rattle.finders.proofs.Tables.{held-in, held-of, sound-of, fine-mono, open-rest, open-fine}
 use Rattle.finders.proofs.Axes.{axis-fine, found-is}
 
-pub outcome-full : (s : Held) (r : Merged) → r ≡ mergedOf s → r .full ≡ true → refused 6 ≡ outcome s
+pub outcome-full : (s : Held) (r : Merged) → r ≡ mergedOf s → r .full ≡ true → refused FullTable ≡ outcome s
 outcome-full over r e f = refl
 outcome-full (held fs) r e f = absurd (true≢false (sym f ∙ ap (λ (z : Merged). z .full) e))
 
@@ -65,12 +68,12 @@ module _ (bits : List ℕ) (width height : ℕ) (p : Sides width height) where
 
 -- ---- the refusals
 module _ (bits : List ℕ) (width height n : ℕ) (e : n ≡ bitsRefusal (length bits) width height) where
-  pub refuse-is : (n ≡ 0 → ⊥) → refused n ≡ answerOf bits width height
+  pub refuse-is : (o : Outcome) → n ≡ numberOf o → (n ≡ 0 → ⊥) → refused o ≡ answerOf bits width height
   unfolding answerOf findRefusal bitsRefusal
-  refuse-is h = go (zeroSide width height) (largeSide width height) (shortBits (length bits) width height) (isOver (found bits width height)) (ranked (heldList (found bits width height))) n e h
+  refuse-is o q h = go (zeroSide width height) (largeSide width height) (shortBits (length bits) width height) (isOver (found bits width height)) (ranked (heldList (found bits width height))) (numberOf o) (sym q ∙ e) (λ z. h (q ∙ z))
     where
       go : (a b c o : Bool) (fs : List _) (n : ℕ) → n ≡ cond a 1 (cond b 2 (cond c 4 0)) → (n ≡ 0 → ⊥)
-          → refused n ≡ record { refusal = cond a 1 (cond b 2 (cond c 4 (cond o 6 0))); finders = tableOf (unless (cond a 1 (cond b 2 (cond c 4 (cond o 6 0)))) [] fs) }
+          → _≡_ {A = Found} (record { refusal = n; finders = tableOf [] }) (record { refusal = cond a 1 (cond b 2 (cond c 4 (cond o 6 0))); finders = tableOf (unless (cond a 1 (cond b 2 (cond c 4 (cond o 6 0)))) [] fs) })
       go true b c o fs n e h = rw e
       go false true c o fs n e h = rw e
       go false false true o fs n e h = rw e

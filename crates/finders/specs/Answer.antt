@@ -6,6 +6,7 @@ use mathlib.Core.List.{List, [], _∷_, _++_}
 use lib.ListN.{length, take}
 use Rattle.lists.specs.Lists.{padded}
 use Rattle.lcr_core.specs.Outcome.{firstOf, unless}
+use Rattle.lcr_core.specs.declared.Outcome.the-variants.{FullTable}
 use Rattle.binary.specs.Refusal.{bitsChecks}
 use Rattle.finders.specs.Held.{Held, held, over}
 use Rattle.finders.specs.Search.{maxFinders, found}
@@ -36,7 +37,7 @@ heldList (held fs) = fs
 -- 1, 2, 4 and 6, in this order
 unfoldable pub findRefusal : List ℕ → ℕ → ℕ → ℕ
 findRefusal bits width height =
-    firstOf (bitsChecks (length bits) width height ++ (record { refuses = isOver (found bits width height); number = 6 } ∷ []))
+    firstOf (bitsChecks (length bits) width height ++ (record { refuses = isOver (found bits width height); outcome = FullTable } ∷ []))
 
 -- the finders of a picture: those that are held at the end, most confirmed first
 abbrev pub findersOf : List ℕ → ℕ → ℕ → List Finder

@@ -6,7 +6,9 @@ use mathlib.Core.List.{List, [], _∷_}
 use lib.Dec.{ltb}
 use lib.ListN.{length}
 use Rattle.lists.specs.Lists.{Each, range, folded, firstWhere, flatMap}
-use Rattle.lcr_core.specs.Outcome.{maxSide}
+use Rattle.lcr_core.specs.Outcome.{numberOf, maxSide}
+use Rattle.lcr_core.specs.declared.Outcome.{Outcome}
+use Rattle.lcr_core.specs.declared.Outcome.the-variants.{FullTable}
 use Rattle.binary.specs.Line.{pixel}
 use Rattle.finders.specs.Hits.{Hit, runs, hits, lineHits}
 use Rattle.finders.specs.Held.{Sighting, Held, held, over, mergeNext}
@@ -120,9 +122,9 @@ abbrev pub keep : List Finder → Finder → List Finder
 keep fs f = cond (stays f) (insert fs f) fs
 
 -- ---- the answer
-abbrev pub refused : ℕ → Found
-refused n = record { refusal = n; finders = tableOf [] }
+abbrev pub refused : Outcome → Found
+refused o = record { refusal = numberOf o; finders = tableOf [] }
 
 abbrev pub outcome : Held → Found
-outcome over = refused 6
+outcome over = refused FullTable
 outcome (held fs) = record { refusal = 0; finders = tableOf (ranked fs) }

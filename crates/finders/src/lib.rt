@@ -7,6 +7,8 @@ ghost use Rattle.finders.specs.Answer.{tableOf, answerOf};
 ghost use Rattle.finders.specs.Inner.{refused, outcome};
 use geometry::Finder;
 use held::Merged;
+use lcr_core::Outcome;
+use lcr_core::number;
 use rank::ranked_finders;
 use search::scan_axis;
 
@@ -39,12 +41,12 @@ pub fn no_finders() -> Finders
     }
 }
 
-fn refuse(n: u8) -> Found
-    ensures { λ r. ⌜ r ≡ refused n ⌝ }
+fn refuse(o: Outcome) -> Found
+    ensures { λ r. ⌜ r ≡ refused o ⌝ }
 {
     let none = no_finders();
     Found {
-        refusal: n,
+        refusal: number(o),
         finders: none,
     }
 }
@@ -61,7 +63,7 @@ fn searched(bits: &[u8], width: u16, height: u16) -> Found
     let rows = scan_axis(bits, width, height, false, start);
     let all = scan_axis(bits, width, height, true, rows);
     if all.full {
-        return refuse(6);
+        return refuse(Outcome::FullTable);
     }
     let held = all.finders;
     let order = ranked_finders(held);
@@ -75,8 +77,8 @@ fn searched(bits: &[u8], width: u16, height: u16) -> Found
 pub fn find_finders(bits: &[u8], width: u32, height: u32) -> Found
     ensures { λ r. ⌜ r ≡ answerOf (now (bits .entry)) width height ⌝ }
 {
-    let checked = lcr_core::number(binary::refusal::check_bits(bits.len(), width, height));
-    if checked != 0 {
+    let checked = binary::refusal::check_bits(bits.len(), width, height);
+    if number(checked) != 0 {
         return refuse(checked);
     }
     searched(bits, width as u16, height as u16)

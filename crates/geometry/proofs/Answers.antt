@@ -13,6 +13,8 @@ use Rattle.transform.specs.declared.Triangle.{Triangle}
 use Rattle.transform.specs.declared.Fit.{Fit}
 use Rattle.transform.specs.declared.Transform.{Transform}
 use Rattle.transform.specs.Fit.{quadFit, zeroTransform}
+use Rattle.lcr_core.specs.Outcome.{numberOf}
+use Rattle.lcr_core.specs.declared.Outcome.the-variants.{BadVersion}
 use Rattle.lcr_core.specs.Version.{valid, newOf, checkedNumber, versionRefusal, sideOf}
 use Rattle.lcr_core.specs.declared.version.Checked.{Checked}
 use Rattle.lcr_core.specs.declared.version.Checked.the-variants.{Is, Refused}
@@ -98,8 +100,8 @@ module _ (c : Corners) (m : Marker) (v : ℕ) (r : Checked) (e : (r ≡ newOf v)
       let n : 0 ≡ versionRefusal v = ap checkedNumber (sym h) ∙ e .1 in
       rw (← n, g, same-version v w (sym h ∙ e .0))
 
-  pub not-built : (z : Transform) → r ≡ Refused → z ≡ zeroTransform → _≡_ {A = Built} (record { refusal = 7; fit = record { found = false; transform = z } }) (builtOf c m v)
+  pub not-built : (n : ℕ) (z : Transform) → r ≡ Refused → n ≡ numberOf BadVersion → z ≡ zeroTransform → _≡_ {A = Built} (record { refusal = n; fit = record { found = false; transform = z } }) (builtOf c m v)
   unfolding builtOf
-  not-built z h k =
-      let n : 7 ≡ versionRefusal v = ap checkedNumber (sym h) ∙ e .1 in
-      rw (← n, k)
+  not-built n z h o k =
+      let q : numberOf BadVersion ≡ versionRefusal v = ap checkedNumber (sym h) ∙ e .1 in
+      rw (← q, o, k)

@@ -1,4 +1,6 @@
 // What three finders tell of a symbol: which is which, their score, its version, and the map from its modules to pixels.
+use lcr_core::Outcome;
+use lcr_core::number;
 use lcr_core::version::Checked;
 use lcr_core::version::Found;
 use lcr_core::version::Version;
@@ -246,7 +248,7 @@ pub fn build_transform(c: Corners, marker: Marker, version: Version) -> Built
             fit: symbol_fit(c, marker, v),
         },
         Checked::Refused => Built {
-            refusal: 7,
+            refusal: number(Outcome::BadVersion),
             fit: Fit {
                 found: false,
                 transform: Transform::zero(),

@@ -7,6 +7,7 @@ use lib.ListN.{length}
 use lib.Dec.{ltb, leb}
 use Rattle.lists.specs.Lists.{filled, sumTo}
 use Rattle.lcr_core.specs.Outcome.{firstOf, unless, zeroSide, largeSide}
+use Rattle.lcr_core.specs.declared.Outcome.the-variants.{ZeroSide, LargeSide, ShortPicture, ShortOutput}
 use Rattle.binary.specs.Binary.{bit, darkBit, darkAt, byteOf, bytesOf}
 use Rattle.binary.specs.Refusal.{shortBits}
 
@@ -14,10 +15,10 @@ use Rattle.binary.specs.Refusal.{shortBits}
 unfoldable pub denoisedRefusal : ℕ → ℕ → ℕ → ℕ → ℕ
 denoisedRefusal len w h room =
     firstOf
-    (record { refuses = zeroSide w h; number = 1 }
-    ∷ record { refuses = largeSide w h; number = 2 }
-    ∷ record { refuses = shortBits len w h; number = 4 }
-    ∷ record { refuses = shortBits room w h; number = 5 }
+    (record { refuses = zeroSide w h; outcome = ZeroSide }
+    ∷ record { refuses = largeSide w h; outcome = LargeSide }
+    ∷ record { refuses = shortBits len w h; outcome = ShortPicture }
+    ∷ record { refuses = shortBits room w h; outcome = ShortOutput }
     ∷ [])
 
 -- whether the pixel at x, y has a neighbour on each side; an unused bit, whose row is past the last, has not

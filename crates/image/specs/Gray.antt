@@ -7,6 +7,7 @@ use lib.ListN.{getD, length}
 use lib.Dec.{eqb, ltb}
 use Rattle.lists.specs.Lists.{filled}
 use Rattle.lcr_core.specs.Outcome.{firstOf, unless, zeroSide, largeSide}
+use Rattle.lcr_core.specs.declared.Outcome.the-variants.{ZeroSide, LargeSide, UnknownFormat, ShortPicture, ShortOutput}
 use Rattle.image.specs.declared.PixelFormat.{PixelFormat}
 use Rattle.image.specs.declared.PixelFormat.the-variants.{Gray8, Rgb8, Rgba8}
 use Rattle.image.specs.declared.Found.{Found}
@@ -48,11 +49,11 @@ shortPicture len w h s channels = ltb s (w * channels) || ltb len ((h - 1) * s +
 unfoldable pub grayRefusal : ℕ → ℕ → ℕ → ℕ → ℕ → ℕ → ℕ
 grayRefusal len w h s f room =
     firstOf
-    (record { refuses = zeroSide w h; number = 1 }
-    ∷ record { refuses = largeSide w h; number = 2 }
-    ∷ record { refuses = unknownFormat f; number = 3 }
-    ∷ record { refuses = shortPicture len w h s f; number = 4 }
-    ∷ record { refuses = ltb room (w * h); number = 5 }
+    (record { refuses = zeroSide w h; outcome = ZeroSide }
+    ∷ record { refuses = largeSide w h; outcome = LargeSide }
+    ∷ record { refuses = unknownFormat f; outcome = UnknownFormat }
+    ∷ record { refuses = shortPicture len w h s f; outcome = ShortPicture }
+    ∷ record { refuses = ltb room (w * h); outcome = ShortOutput }
     ∷ [])
 
 -- the gray value of a colour

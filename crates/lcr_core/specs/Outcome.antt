@@ -18,15 +18,15 @@ numberOf FullTable = 6
 numberOf BadVersion = 7
 numberOf BadList = 8
 
--- a check: whether it refuses, and the number it then gives
+-- a check: whether it refuses, and what is then answered
 pub record Check : Type 0 where
   pub refuses : Bool
-  pub number : ℕ
+  pub outcome : Outcome
 
--- the number of the first check that refuses, 0 where none does
+-- the number that a list of checks gives: that of the first which refuses, or that of `Done`
 abbrev pub firstOf : List Check → ℕ
-firstOf [] = 0
-firstOf (c ∷ cs) = cond (c .refuses) (c .number) (firstOf cs)
+firstOf [] = numberOf Done
+firstOf (c ∷ cs) = cond (c .refuses) (numberOf (c .outcome)) (firstOf cs)
 
 -- what a call leaves of what was lent: after a refusal all as it was, else what the stage writes
 abbrev pub unless : {A : Type 0} → ℕ → A → A → A

@@ -6,6 +6,8 @@ use mathlib.Core.List.{List, _++_}
 use lib.ListN.{length, drop}
 use lib.Dec.{eqb}
 use Rattle.lists.specs.Lists.{tabulate}
+use Rattle.lcr_core.specs.Outcome.{numberOf}
+use Rattle.lcr_core.specs.declared.Outcome.the-variants.{Done, FullTable}
 use Rattle.binary.specs.Binary.{byteOf, bytesOf}
 use Rattle.image.specs.Gray.{grayAt}
 use Rattle.image.specs.Denoise.{denoisedAt}
@@ -49,7 +51,7 @@ written new old = new ++ drop (length new) old
 
 -- after 0, and after 6, which is given behind the stages, a list is written; else all is as it was
 unfoldable pub leftAfter : ℕ → List ℕ → List ℕ → List ℕ
-leftAfter n new old = cond (eqb n 0 || eqb n 6) (written new old) old
+leftAfter n new old = cond (eqb n (numberOf Done) || eqb n (numberOf FullTable)) (written new old) old
 
 -- each slice, where p is the picture and n the number answered
 module _ (n : ℕ) (p : List ℕ) (w h s f : ℕ) where

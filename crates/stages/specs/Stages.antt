@@ -6,6 +6,7 @@ use mathlib.Core.List.{List, [], _∷_, map}
 use lib.Dec.{ltb}
 use lib.ListN.{length}
 use Rattle.lcr_core.specs.Outcome.{firstOf, zeroSide, largeSide}
+use Rattle.lcr_core.specs.declared.Outcome.the-variants.{ZeroSide, LargeSide, UnknownFormat, ShortPicture, ShortOutput}
 use Rattle.binary.specs.Binary.{bytesOf}
 use Rattle.blocks.specs.Blocks.{blocksIn, under}
 use Rattle.image.specs.Gray.{unknownFormat, shortPicture}
@@ -19,11 +20,11 @@ shortRoom w h gray bits denoised work =
 unfoldable pub stagesRefusal : ℕ → ℕ → ℕ → ℕ → ℕ → ℕ → ℕ → ℕ → List ℕ → ℕ
 stagesRefusal len w h s f gray bits denoised work =
     firstOf
-    (record { refuses = zeroSide w h; number = 1 }
-    ∷ record { refuses = largeSide w h; number = 2 }
-    ∷ record { refuses = unknownFormat f; number = 3 }
-    ∷ record { refuses = shortPicture len w h s f; number = 4 }
-    ∷ record { refuses = shortRoom w h gray bits denoised work; number = 5 }
+    (record { refuses = zeroSide w h; outcome = ZeroSide }
+    ∷ record { refuses = largeSide w h; outcome = LargeSide }
+    ∷ record { refuses = unknownFormat f; outcome = UnknownFormat }
+    ∷ record { refuses = shortPicture len w h s f; outcome = ShortPicture }
+    ∷ record { refuses = shortRoom w h gray bits denoised work; outcome = ShortOutput }
     ∷ [])
 
 -- the same, from the picture and the lent slices

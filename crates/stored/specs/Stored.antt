@@ -7,6 +7,7 @@ use lib.ListN.{length, drop, getD}
 use lib.Ieee.{binary32, toBits, ofBits}
 use Rattle.lists.specs.Lists.{tabulate, flatMap}
 use Rattle.lcr_core.specs.Outcome.{Check, firstOf, unless, zeroSide, largeSide}
+use Rattle.lcr_core.specs.declared.Outcome.the-variants.{ZeroSide, LargeSide, ShortOutput, BadList}
 use Rattle.little_endian.specs.Bytes.{bytesLE, readLE}
 use Rattle.geometry.specs.declared.Finder.{Finder}
 use Rattle.finders.specs.declared.Finders.{Finders}
@@ -72,10 +73,10 @@ badLength len count = manyFinders count || not (eqb len (sizeOf count))
 unfoldable pub readRefusal : List ℕ → ℕ
 readRefusal bytes =
     firstOf
-    (record { refuses = badHead bytes; number = 8 }
-    ∷ record { refuses = zeroSide (widthIn bytes) (heightIn bytes); number = 1 }
-    ∷ record { refuses = largeSide (widthIn bytes) (heightIn bytes); number = 2 }
-    ∷ record { refuses = badLength (length bytes) (countIn bytes); number = 8 }
+    (record { refuses = badHead bytes; outcome = BadList }
+    ∷ record { refuses = zeroSide (widthIn bytes) (heightIn bytes); outcome = ZeroSide }
+    ∷ record { refuses = largeSide (widthIn bytes) (heightIn bytes); outcome = LargeSide }
+    ∷ record { refuses = badLength (length bytes) (countIn bytes); outcome = BadList }
     ∷ [])
 
 -- `read_list`: what the list holds, or a refusal's number and zeros
@@ -97,10 +98,10 @@ shortOutput len count = ltb len (sizeOf count)
 -- 1, 2, 8, 5, for so many finders and len bytes of output
 abbrev pub writeChecks : ℕ → ℕ → ℕ → ℕ → List Check
 writeChecks count width height len =
-    record { refuses = zeroSide width height; number = 1 }
-    ∷ record { refuses = largeSide width height; number = 2 }
-    ∷ record { refuses = manyFinders count; number = 8 }
-    ∷ record { refuses = shortOutput len count; number = 5 }
+    record { refuses = zeroSide width height; outcome = ZeroSide }
+    ∷ record { refuses = largeSide width height; outcome = LargeSide }
+    ∷ record { refuses = manyFinders count; outcome = BadList }
+    ∷ record { refuses = shortOutput len count; outcome = ShortOutput }
     ∷ []
 
 -- the refusal of a table's finders

@@ -24,11 +24,14 @@ enum-told c = search needs
 enum-told-2 : tie.Need-enum-told-2
 enum-told-2 c = search needs
 
+number-requires-2 : tie.Need-number-requires-2
+number-requires-2 c κs = search needs
+
 returns-2 : tie.Need-returns-2
 returns-2 c = version-refused _ _ _ _ _ (c .before .before .before .before .number .ensures ∙ c .before .before .before .before .before .check-bits .ensures) (c .before .before .before .if1 .left) _ (ap checkedNumber (sym (c .enum-told .given .1)) ∙ c .before .before .new .ensures .1)
 
 returns-3 : tie.Need-returns-3
-returns-3 c = version-refused _ _ _ _ _ (c .before .before .before .before .number .ensures ∙ c .before .before .before .before .before .check-bits .ensures) (c .before .before .before .if1 .left) _ (ap checkedNumber (sym (c .enum-told2 .given .1)) ∙ c .before .before .new .ensures .1)
+returns-3 c = version-refused _ _ _ _ _ (c .before .before .before .before .before .number .ensures ∙ c .before .before .before .before .before .before .check-bits .ensures) (c .before .before .before .before .if1 .left) _ (c .number2 .ensures ∙ ap checkedNumber (sym (c .before .enum-told2 .given .1)) ∙ c .before .before .before .new .ensures .1)
 
 pub check-spec : {M : Type 1} → statement M
 check-spec =
@@ -40,5 +43,6 @@ check-spec =
     new-requires
     enum-told
     enum-told-2
+    number-requires-2
     returns-2
     returns-3)

@@ -28,7 +28,7 @@ refuse-requires : tie.Need-refuse-requires
 refuse-requires c κs = search needs
 
 returns : tie.Need-returns
-returns c = c .refuse .ensures ∙ refuse-is _ _ _ _ (checked (c .before .before)) (c .before .if1 .taken)
+returns c = c .refuse .ensures ∙ refuse-is _ _ _ _ (checked (c .before .before)) (c .before .before .before .check-bits .result) (c .before .before .number .ensures) (c .before .if1 .taken)
 
 cast-searched : tie.Need-cast-searched
 cast-searched c = omega (arith, sides c .w-most)

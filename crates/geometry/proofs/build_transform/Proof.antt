@@ -16,6 +16,9 @@ symbol-fit-requires c κs = search needs
 enum-told : tie.Need-enum-told
 enum-told c = search needs
 
+number-requires : tie.Need-number-requires
+number-requires c κs = search needs
+
 zero-requires : tie.Need-zero-requires
 zero-requires c κs = search needs
 
@@ -23,8 +26,8 @@ returns : tie.Need-returns
 returns c = built _ _ _ _ (c .before .before .before .before .new .ensures) _ _ (c .before .before .v .given .1) (c .symbol-fit .ensures)
 
 returns-2 : tie.Need-returns-2
-returns-2 c = not-built _ _ _ _ (c .before .before .before .new .ensures) _ (c .before .enum-told .given .1) (c .zero .ensures)
+returns-2 c = not-built _ _ _ _ (c .before .before .before .before .new .ensures) _ _ (c .before .before .enum-told .given .1) (c .before .number .ensures) (c .zero .ensures)
 
 pub build-transform-spec : {M : Type 1} → statement M
 build-transform-spec =
-    tie.close (tie.spec new-requires enum-known-v symbol-fit-requires enum-told zero-requires returns returns-2)
+    tie.close (tie.spec new-requires enum-known-v symbol-fit-requires enum-told number-requires zero-requires returns returns-2)

@@ -19,7 +19,7 @@ number-requires : tie.Need-number-requires
 number-requires c κs = search needs
 
 returns : tie.Need-returns
-returns c = stages-refuse _ _ _ (c .before .number .ensures ∙ c .before .before .check-stages .ensures) (c .if1 .taken)
+returns c = stages-refuse _ _ _ (c .before .before .check-stages .ensures) (λ e. c .if1 .taken (c .before .number .ensures ∙ e))
 
 returns-2 : tie.Need-returns-2
 returns-2 c = room-short _ _ (passed (c .before)) (c .if2 .taken)

@@ -1,5 +1,5 @@
 -- `chain::entry::plate_chain` meets its contract. Assumes nothing.
-use mathlib.Core.Path.{refl}
+use mathlib.Core.Path.{refl, _∙_}
 use Rattle.lcr_core.proofs.Checks.{unless-refused}
 use Rattle.chain.proofs.EntryLaws.{entry-refused, untouched, entry-passed, entry-found}
 use borrow.Author.Needs.{needs}
@@ -9,9 +9,12 @@ use Rattle.chain.proofs.entry.plate_chain.Tie as tie
 check-entry-requires : tie.Need-check-entry-requires
 check-entry-requires c κs = search needs
 
+number-requires : tie.Need-number-requires
+number-requires c κs = search needs
+
 returns : tie.Need-returns
 returns c =
-    let n = c .before .check-entry .ensures in
+    let n = c .before .number .ensures ∙ c .before .before .check-entry .ensures in
     let k = untouched _ _ _ _ _ _ _ _ _ _ _ n (c .if1 .taken) in
     (entry-refused _ _ _ _ _ _ _ _ _ _ _ n (c .if1 .taken) _, (k _ _, (k _ _, (k _ _, (k _ _, (k _ _, (k _ _, (k _ _, (k _ _, unless-refused _ _ _ (c .if1 .taken))))))))))
 
@@ -51,7 +54,7 @@ same-length-9 c = search needs
 returns-2 : tie.Need-returns-2
 returns-2 c =
     let s = c .before .before .before .before .before .before .before .before .before .before .before .before .before .before .before .before .before .before .before .before .before .before .chain .ensures in
-    let n = c .before .before .before .before .before .before .before .before .before .before .before .before .before .before .before .before .before .before .before .before .before .before .before .before .before .before .before .before .before .before .before .before .check-entry .ensures in
+    let n = c .before .before .before .before .before .before .before .before .before .before .before .before .before .before .before .before .before .before .before .before .before .before .before .before .before .before .before .before .before .before .before .before .number .ensures ∙ c .before .before .before .before .before .before .before .before .before .before .before .before .before .before .before .before .before .before .before .before .before .before .before .before .before .before .before .before .before .before .before .before .before .check-entry .ensures in
     let z = c .before .before .before .before .before .before .before .before .before .before .before .before .before .before .before .before .before .before .before .before .before .before .before .before .before .before .before .before .before .before .before .if1 .left in
     (entry-passed _ _ _ _ _ _ _ _ _ _ _ n z _ _ (s .0), (s .1 .0, (s .1 .1 .0, (s .1 .1 .1 .0, (s .1 .1 .1 .1 .0, (s .1 .1 .1 .1 .1 .0, (s .1 .1 .1 .1 .1 .1 .0, (s .1 .1 .1 .1 .1 .1 .1 .0, (s .1 .1 .1 .1 .1 .1 .1 .1, entry-found _ _ _ _ _ _ _ _ _ _ _ n z _ _ (s .0) (c .before .before .before .before .before .if2 .taken) _ _ refl (c .before .before .put-detections .ensures))))))))))
 
@@ -82,7 +85,7 @@ same-length-17 c = search needs
 returns-3 : tie.Need-returns-3
 returns-3 c =
     let s = c .before .before .before .before .before .before .before .before .before .before .before .before .before .before .before .before .before .chain .ensures in
-    let n = c .before .before .before .before .before .before .before .before .before .before .before .before .before .before .before .before .before .before .before .before .before .before .before .before .before .before .before .check-entry .ensures in
+    let n = c .before .before .before .before .before .before .before .before .before .before .before .before .before .before .before .before .before .before .before .before .before .before .before .before .before .before .before .number .ensures ∙ c .before .before .before .before .before .before .before .before .before .before .before .before .before .before .before .before .before .before .before .before .before .before .before .before .before .before .before .before .check-entry .ensures in
     let z = c .before .before .before .before .before .before .before .before .before .before .before .before .before .before .before .before .before .before .before .before .before .before .before .before .before .before .if1 .left in
     (entry-passed _ _ _ _ _ _ _ _ _ _ _ n z _ _ (s .0), (s .1 .0, (s .1 .1 .0, (s .1 .1 .1 .0, (s .1 .1 .1 .1 .0, (s .1 .1 .1 .1 .1 .0, (s .1 .1 .1 .1 .1 .1 .0, (s .1 .1 .1 .1 .1 .1 .1 .0, (s .1 .1 .1 .1 .1 .1 .1 .1, unless-refused _ _ _ (c .if2 .left))))))))))
 
@@ -91,6 +94,7 @@ plate-chain-spec =
     tie.close
     (tie.spec
     check-entry-requires
+    number-requires
     returns
     chain-requires
     put-detections-requires
