@@ -198,7 +198,7 @@ pub fn candidates_in(bits: &[u8], width: u32, height: u32, t: Eight) -> Answer
 }
 
 // The first eight finders of a search.
-fn eight_in(t: Finders) -> Eight
+pub fn eight_in(t: Finders) -> Eight
     ensures { λ r. ⌜ ((fs : List Finder) → t ≡ findersTable fs → r ≡ eightOf fs) ⌝ }
 {
     let at = t.table;

@@ -2,12 +2,9 @@
 use mathlib.Core.Path.{_≡_, refl, sym, _∙_, ap}
 use mathlib.Core.Bool.{Bool, true, false, cond}
 use mathlib.Core.List.{List, []}
-use Prim.Native.Nat.{ℕ, zero, suc, _*_}
-use lib.ListN.{length, take, drop}
-use lib.Seq.{take-at}
+use Prim.Native.Nat.{ℕ, zero, suc}
 use Rattle.lcr_core.specs.Outcome.{unless}
 use Rattle.lcr_core.proofs.Checks.{unless-done}
-use Rattle.binary.specs.Binary.{bytesOf}
 use Rattle.candidates.specs.declared.Answer.{Answer}
 use Rattle.candidates.specs.declared.Detections.{Detections}
 use Rattle.candidates.specs.Candidates.{tableOf, answered, detectAnswer}
@@ -15,8 +12,8 @@ use Rattle.candidates.proofs.Tails.{answer-tail}
 use Rattle.finders.specs.Answer.{isOver}
 use Rattle.finders.specs.Search.{found}
 use Rattle.stages.specs.Stages.{stagesRefusal}
-use Rattle.stages.specs.Pictures.{denoisedPicture, written, leftAfter}
-use Rattle.stages.proofs.Theorems.{length-denoised}
+use Rattle.stages.specs.Pictures.{denoisedPicture, leftAfter}
+use Rattle.stages.proofs.Theorems.{denoised-first}
 use Rattle.chain.specs.Chain.{chainOf, chainAnswer}
 use Rattle.chain.proofs.Theorems.{six-is-left}
 
@@ -34,17 +31,9 @@ module _ (m : ℕ) (p : List ℕ) (w h s f : ℕ) where
   unfolding chainAnswer
   chain-done r e g = g ∙ unless-done m (answered m []) (chainOf p w h s f) e
 
-  -- the denoised bits stand in front of what the slice held behind them, which is not read
-  bits-first : m ≡ 0 → (old done : List ℕ) → done ≡ leftAfter m (denoisedPicture p w h s f) old → take (bytesOf (w * h)) done ≡ denoisedPicture p w h s f
-  unfolding leftAfter written
-  bits-first z old done e =
-      let d = denoisedPicture p w h s f in
-      let k : leftAfter m d old ≡ written d old = ap (λ (m : ℕ). leftAfter m d old) z in
-      ap (take (bytesOf (w * h))) (e ∙ k) ∙ take-at d (drop (length d) old) (bytesOf (w * h)) (length-denoised p w h s f)
-
   pub chained : m ≡ 0 → (old done : List ℕ) → done ≡ leftAfter m (denoisedPicture p w h s f) old → (r : Answer) → r ≡ detectAnswer done w h → r ≡ chainOf p w h s f
   unfolding chainOf
-  chained z old done e r a = a ∙ sym (answer-tail done w h) ∙ ap (λ (d : List ℕ). detectAnswer d w h) (bits-first z old done e)
+  chained z old done e r a = a ∙ sym (answer-tail done w h) ∙ ap (λ (d : List ℕ). detectAnswer d w h) (denoised-first m p w h s f z old done e)
 
 -- ---- what is left of a slice, by the number that the chain answers where the stages give m
 pub left-as : (m n : ℕ) → n ≡ m → (x new old : List ℕ) → x ≡ leftAfter m new old → x ≡ leftAfter n new old
