@@ -12,6 +12,7 @@ use lib.Ieee.{nan}
 use Rattle.lists.specs.Lists.{tabulate, flatMap}
 use Rattle.little_endian.specs.Bytes.{readLE}
 use Rattle.lcr_core.specs.Outcome.{firstOf, unless, zeroSide, largeSide}
+use Rattle.lcr_core.specs.declared.Outcome.the-variants.{ZeroSide, LargeSide, ShortPicture, ShortOutput}
 use Rattle.image.specs.declared.PixelFormat.the-variants.{Gray8}
 use Rattle.image.specs.Gray.{channelsOf}
 use Rattle.transform.specs.declared.Transform.{Transform}
@@ -50,11 +51,11 @@ listingRefusal input =
     let w = widthOf input in
     let h = heightOf input in
     firstOf
-    (record { refuses = ltb (length input) 4; number = 4 }
-    ∷ record { refuses = zeroSide w h; number = 1 }
-    ∷ record { refuses = largeSide w h; number = 2 }
-    ∷ record { refuses = ltb maxPixels (w * h); number = 5 }
-    ∷ record { refuses = ltb (length (pictureOf input)) (w * h); number = 4 }
+    (record { refuses = ltb (length input) 4; outcome = ShortPicture }
+    ∷ record { refuses = zeroSide w h; outcome = ZeroSide }
+    ∷ record { refuses = largeSide w h; outcome = LargeSide }
+    ∷ record { refuses = ltb maxPixels (w * h); outcome = ShortOutput }
+    ∷ record { refuses = ltb (length (pictureOf input)) (w * h); outcome = ShortPicture }
     ∷ [])
 
 -- ---- lines

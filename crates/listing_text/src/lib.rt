@@ -1,12 +1,15 @@
 // Document 01's listing: every character of the text that the program prints for an input.
 use candidates::eight_in;
 use finders::MAX_FINDERS;
+use lcr_core::Outcome;
+use lcr_core::number;
 use lines::put_list;
 use lines::put_refusal;
 ghost use mathlib.Core.Path.{_≡_};
 ghost use mathlib.Core.List.{_++_};
 ghost use Prim.Native.Nat.{_*_, _≤_};
 ghost use lib.ListN.{length, take, drop};
+ghost use Rattle.lcr_core.specs.Outcome.{numberOf};
 ghost use Rattle.listing_text.specs.Inner.{Passed, Wrote, foundText};
 ghost use Rattle.listing_text.specs.Listing.{chainText, listingRefusal, listingOf, listingRoom, writtenIn};
 
@@ -23,28 +26,28 @@ fn area(width: u32, height: u32) -> u64
 }
 
 // The input's refusals, in document 01's order.
-fn check_input(input: &[u8]) -> u8
-    ensures { λ r. ⌜ r ≡ listingRefusal (now (input .entry)) ⌝ }
+fn check_input(input: &[u8]) -> Outcome
+    ensures { λ r. ⌜ numberOf r ≡ listingRefusal (now (input .entry)) ⌝ }
 {
     if input.len() < 4 {
-        return 4;
+        return Outcome::ShortPicture;
     }
     let width = little_endian::get16(input, 0) as u32;
     let height = little_endian::get16(input, 2) as u32;
     if lcr_core::zero_side(width, height) {
-        return 1;
+        return Outcome::ZeroSide;
     }
     if lcr_core::large_side(width, height) {
-        return 2;
+        return Outcome::LargeSide;
     }
     let pixels = area(width, height);
     if 40000 < pixels {
-        return 5;
+        return Outcome::ShortOutput;
     }
     if ((input.len() - 4) as u64) < pixels {
-        return 4;
+        return Outcome::ShortPicture;
     }
-    0
+    Outcome::Done
 }
 
 // The text of a picture whose denoised bits these are, at the front.
@@ -100,7 +103,7 @@ fn put_listing(input: &[u8], text: &mut [u8]) -> u32
     ensures text { λ r. ⌜ Wrote (listingOf (now (input .entry))) 0 (now (text .entry)) r (now (text .exit)) ⌝ }
     ensures most { λ r. ⌜ r ≤ listingRoom ⌝ }
 {
-    let refusal = check_input(input);
+    let refusal = number(check_input(input));
     if refusal != 0 {
         return put_refusal(text, refusal);
     }
