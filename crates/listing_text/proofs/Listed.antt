@@ -1,10 +1,8 @@
 -- The whole text from what its parts write. Assumes nothing.
 use mathlib.Core.Path.{_≡_, refl, sym, ap, ap₂, _∙_}
-use mathlib.Core.Bool.{cond}
-use mathlib.Core.List.{List, [], _∷_, _++_}
+use mathlib.Core.List.{List, [], _++_}
 use Prim.Native.Nat.{ℕ, _+_, _*_, _≤_, _<_}
 use native.Mathlib.Omega.{arith}
-use lib.Dec.{ltb}
 use lib.ListN.{length, take, drop}
 use lib.Seq.{take-all}
 use borrow.Author.Tests.{lt-ltb, le-ltb}
@@ -13,7 +11,6 @@ use Rattle.lists.proofs.Padded.{take-padded}
 use Rattle.binary.specs.Binary.{bytesOf}
 use Rattle.lcr_core.specs.Outcome.{unless}
 use Rattle.lcr_core.proofs.Checks.{unless-refused, unless-done}
-use Rattle.little_endian.specs.Bytes.{put}
 use Rattle.little_endian.proofs.Round.{put-front}
 use Rattle.geometry.specs.declared.Finder.{Finder}
 use Rattle.geometry.specs.Order.{zeroFinder}

@@ -1,5 +1,4 @@
 // Fields of a line, each with the character that follows it. A character beyond the slice is not written.
-ghost use mathlib.Core.Path.{_≡_};
 ghost use mathlib.Core.List.{[], _∷_, _++_};
 ghost use Prim.Native.Nat.{_+_, _^_, _≤_, _<_};
 ghost use lib.ListN.{length};
