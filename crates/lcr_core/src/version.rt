@@ -29,10 +29,10 @@ impl Version {
         ensures version { λ r. ⌜ r ≡ newOf v ⌝ }
         ensures number { λ r. ⌜ checkedNumber r ≡ versionRefusal v ⌝ }
     {
-        if v < 1 {
+        if v < Version::MIN.0 {
             return Checked::Refused;
         }
-        if 64 < v {
+        if Version::MAX.0 < v {
             return Checked::Refused;
         }
         Checked::Is(Version(v))
