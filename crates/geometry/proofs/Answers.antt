@@ -34,10 +34,10 @@ module _ (side r : Float) (n : ℕ) (e : r ≡ roundOf binary32 (over32 (minus32
   unfolding nearestVersion
   nearest-is = cc
 
-  pub version-in : n < 31 → n + 1 ≡ nearestVersion side
+  pub version-in : n < 32 → n + 1 ≡ nearestVersion side
   version-in h = omega (arith, nearest-is)
 
-  pub version-top : 31 ≤ n → 32 ≡ nearestVersion side
+  pub version-top : 32 ≤ n → 32 ≡ nearestVersion side
   version-top h = omega (arith, nearest-is)
 
 pub or-right : (a b : Bool) → b ≡ true → (a || b) ≡ true

@@ -132,7 +132,8 @@ fn nearest_version(side: f32) -> u8
     ensures { λ r. ⌜ r ≡ nearestVersion side ⌝ }
 {
     let n = float::to_u32(float::round32((side - 21.0) / 4.0));
-    if n < 31 { (n + 1) as u8 } else { 32 }
+    let most = Version::MAX_CLASSIC.0;
+    if n < most as u32 { (n + 1) as u8 } else { most }
 }
 
 // The version, or none.
