@@ -19,6 +19,10 @@ use Rattle.transform.specs.declared.Fit.{Fit}
 abbrev pub zeroTransform : Transform
 zeroTransform = record { m = replicate 8 d0 }
 
+-- `IDENTITY`: x = u and y = v
+abbrev pub identityTransform : Transform
+identityTransform = record { m = d1 ∷ d0 ∷ d0 ∷ d0 ∷ d1 ∷ d0 ∷ d0 ∷ d0 ∷ [] }
+
 -- an f32 is an f64 as it stands
 unfoldable pub widened : Point → Wide
 widened p = record { x = p .x; y = p .y }

@@ -3,7 +3,7 @@ ghost use mathlib.Core.Path.{_≡_};
 ghost use Prim.Native.Nat.{_+_, _≤_};
 ghost use lib.ListN.{length};
 ghost use lib.Seq.{paste as pasted};
-ghost use Rattle.transform.specs.Fit.{zeroTransform, widened, homographyRows, affineRows, fitOf, quadFit, triangleFit};
+ghost use Rattle.transform.specs.Fit.{zeroTransform, identityTransform, widened, homographyRows, affineRows, fitOf, quadFit, triangleFit};
 ghost use Rattle.transform.specs.Apply.{linearOf, apartOf, projected, narrowed, applied, centerOf, distance2Of, distanceOf, pitchAt, pitchesOf};
 
 pub struct Point {
@@ -116,6 +116,13 @@ impl Transform {
     pub const IDENTITY: Transform = Transform {
         m: [1.0, 0.0, 0.0, 0.0, 1.0, 0.0, 0.0, 0.0],
     };
+
+    // Which takes (u, v) to (u, v).
+    pub fn identity() -> Transform
+        ensures { λ r. ⌜ r ≡ identityTransform ⌝ }
+    {
+        Transform::IDENTITY
+    }
 
     // Every number 0.
     pub fn zero() -> Transform
