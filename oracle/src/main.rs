@@ -69,6 +69,17 @@ fn vectors(folder: &str, seed: u64) {
             }
             println!("{program}: {name}, {cases} records, {} bytes", records.len() - before);
         }
+        let before = records.len();
+        let unanswered = cases::unanswered(program);
+        for record in &unanswered {
+            records.extend(record.encoded());
+            lines += "-\n";
+        }
+        println!(
+            "{program}: without an answer, {} records, {} bytes",
+            unanswered.len(),
+            records.len() - before
+        );
         let folder = std::path::Path::new(folder).join(program);
         std::fs::create_dir_all(&folder).expect("the folder");
         std::fs::write(folder.join("stdin"), records).expect("stdin");
@@ -86,7 +97,9 @@ fn answer_all() {
         let length = u32::from_le_bytes([head[1], head[2], head[3], head[4]]) as usize;
         let mut payload = vec![0; length];
         input.read_exact(&mut payload).expect("a whole record");
-        let answer = answers::answer(&Record { function: head[0], payload });
-        writeln!(out, "{}", compare::hex(&answer.bytes)).expect("a line written");
+        let record = Record { function: head[0], payload };
+        let unanswered = cases::is_unanswered(&record);
+        let line = if unanswered { "-".to_string() } else { compare::hex(&answers::answer(&record).bytes) };
+        writeln!(out, "{line}").expect("a line written");
     }
 }

@@ -8,12 +8,14 @@ mod finders;
 mod geometry;
 mod image;
 mod scenes;
+mod unanswered;
 
 use crate::record::Record;
 use crate::rng::Rng;
 
 pub use image::chain_case;
 pub use scenes::scene;
+pub use unanswered::{is_unanswered, unanswered};
 
 /// How far a run reaches.
 #[derive(Copy, Clone, PartialEq, Eq)]
