@@ -1,25 +1,21 @@
 -- Where the stages refuse nothing, the only refusal that is left to the detections of the denoised bits is 6; and their bytes are 367. Assumes nothing.
 use mathlib.Core.Path.{_≡_}
 use mathlib.Core.Bool.{false, cond}
-use mathlib.Core.List.{List, []}
-use Prim.Native.Nat.{ℕ, zero, suc, _*_, _≤_}
+use mathlib.Core.List.{List}
+use Prim.Native.Nat.{ℕ, _*_}
 use native.Mathlib.Omega.{arith}
 use lib.Dec.{ltb}
 use lib.ListN.{length}
 use borrow.Author.Tests.{le-ltb}
-use Rattle.lists.proofs.Padded.{length-padded}
-use Rattle.lcr_core.specs.Outcome.{zeroSide, largeSide, unless}
+use Rattle.lcr_core.specs.Outcome.{zeroSide, largeSide}
 use Rattle.lcr_core.proofs.Checks.{first-passes}
 use Rattle.binary.specs.Binary.{bytesOf}
 use Rattle.binary.specs.Refusal.{shortBits}
-use Rattle.finders.specs.Answer.{isOver, findRefusal, findersOf}
+use Rattle.finders.specs.Answer.{isOver, findRefusal}
 use Rattle.finders.specs.Search.{found}
-use Rattle.candidates.specs.declared.Detection.{Detection}
-use Rattle.candidates.specs.Detection.{zeroDetection}
-use Rattle.candidates.specs.Candidates.{detectionsOf, tableOf, detectAnswer}
-use Rattle.candidates.proofs.Theorems.{three-at-most}
+use Rattle.candidates.specs.Candidates.{detectAnswer}
 use Rattle.firmware.specs.Firmware.{firmwareBytes, firmwareSize}
-use Rattle.firmware.proofs.Theorems.{length-firmware}
+use Rattle.firmware.proofs.Theorems.{answer-bytes}
 use Rattle.stages.specs.Stages.{stagesRefusal}
 use Rattle.stages.specs.Pictures.{denoisedPicture}
 use Rattle.stages.proofs.Theorems.{length-denoised}
@@ -35,14 +31,6 @@ module _ (p : List ℕ) (w h s f : ℕ) where
       let k : ltb (length (denoisedPicture p w h s f)) (bytesOf (w * h)) ≡ false = le-ltb (length (denoisedPicture p w h s f)) (bytesOf (w * h)) (omega (arith, length-denoised p w h s f)) in
       simp (p1 .0, p2 .0, k)
 
-  few : (n : ℕ) (ds : List Detection) → length ds ≤ 3 → length (unless n [] ds) ≤ 3
-  few zero ds l = l
-  few (suc n) ds l = omega arith
-
   pub detection-bytes : length (firmwareBytes (chainOf p w h s f .detections)) ≡ firmwareSize
-  unfolding chainOf detectAnswer
-  detection-bytes =
-      let d = denoisedPicture p w h s f in
-      let n = findRefusal d w h in
-      let ds = detectionsOf d w h (findersOf d w h) in
-      length-firmware (tableOf (unless n [] ds)) (length-padded 3 zeroDetection (unless n [] ds) (few n ds (three-at-most d w h (findersOf d w h))))
+  unfolding chainOf
+  detection-bytes = answer-bytes (denoisedPicture p w h s f) w h

@@ -4,8 +4,7 @@ ghost use mathlib.Core.List.{_∷_, []};
 ghost use Prim.Native.Nat.{_*_};
 ghost use lib.ListN.{length};
 ghost use Rattle.lists.specs.Lists.{filled};
-ghost use Rattle.lcr_core.specs.Outcome.{unless};
-ghost use Rattle.little_endian.specs.Bytes.{put};
+ghost use Rattle.lcr_core.specs.Outcome.{firstOf, unless};
 ghost use Rattle.binary.specs.Binary.{byteOf, bytesOf};
 ghost use Rattle.image.specs.Gray.{grayRefusal, grayWritten};
 ghost use Rattle.image.specs.Denoise.{denoisedRefusal, denoisedWritten};
@@ -15,7 +14,7 @@ ghost use Rattle.finders.specs.Answer.{heldIn, answerOf};
 ghost use Rattle.stored.specs.Stored.{storedBytes, over};
 ghost use Rattle.candidates.specs.Candidates.{detectAnswer};
 ghost use Rattle.firmware.specs.Firmware.{firmwareBytes};
-ghost use Rattle.entries.specs.Entries.{listRefusal};
+ghost use Rattle.entries.specs.Entries.{listRefusal, roomChecks, candidatesRefusal};
 
 // Gray conversion.
 #[no_mangle]
@@ -100,7 +99,21 @@ pub extern "C" fn plate_finders(bits: &[u8], width: u32, height: u32, list: &mut
     written.refusal
 }
 
-// The detections, which leaves the firmware's bytes, as many as there is room for.
+// What is refused before the search, for so many bytes of bits and of room.
+fn check_candidates(len: usize, width: u32, height: u32, room: usize) -> u8
+    ensures { λ r. ⌜ r ≡ firstOf (roomChecks len width height room) ⌝ }
+{
+    let n = lcr_core::number(binary::refusal::check_bits(len, width, height));
+    if n != 0 {
+        return n;
+    }
+    if room < firmware::SIZE {
+        return 5;
+    }
+    0
+}
+
+// The detections, which leaves the firmware's bytes.
 #[no_mangle]
 pub extern "C" fn plate_candidates(
     bits: &[u8],
@@ -108,16 +121,19 @@ pub extern "C" fn plate_candidates(
     height: u32,
     detections: &mut [u8],
 ) -> u8
-    ensures number { λ r. ⌜ r ≡ detectAnswer (now (bits .entry)) width height .refusal ⌝ }
+    ensures number { λ r. ⌜ r ≡ candidatesRefusal (now (bits .entry)) width height (length (now (detections .entry))) ⌝ }
     ensures detections { λ r. ⌜ now (detections .exit) ≡ unless r (now (detections .entry))
-        (put (firmwareBytes (detectAnswer (now (bits .entry)) width height .detections)) 0 (now (detections .entry))) ⌝ }
+        (over (firmwareBytes (detectAnswer (now (bits .entry)) width height .detections)) (now (detections .entry))) ⌝ }
 {
-    let answer = candidates::detect_candidates(bits, width, height);
-    let n = answer.refusal;
+    let n = check_candidates(bits.len(), width, height, detections.len());
     if n != 0 {
         return n;
     }
-    let found = answer.detections;
-    firmware::put_detections(detections, found);
-    0
+    let answer = candidates::detect_candidates(bits, width, height);
+    let refusal = answer.refusal;
+    if refusal == 0 {
+        let found = answer.detections;
+        firmware::put_detections(detections, found);
+    }
+    refusal
 }

@@ -1,18 +1,22 @@
--- The bytes of at most three detections are 367, and those of missing ones are zero. Assumes nothing.
+-- The bytes of at most three detections, as of those in any answer, are 367, and those of missing ones are zero. Assumes nothing.
 use mathlib.Core.Path.{_≡_, refl, ap, _∙_}
-use mathlib.Core.List.{List, _∷_, _++_}
+use mathlib.Core.List.{List, [], _∷_, _++_}
 use Prim.Native.Nat.{ℕ, zero, suc, _+_, _-_, _*_, _%_, _≤_}
 use native.Mathlib.Omega.{arith}
 use lib.ListN.{length, replicate}
 use lib.Ieee.{toBits, ofBits}
 use Rattle.lists.specs.Lists.{padded, tabulate, flatMap}
 use Rattle.lists.proofs.Folds.{flatMap-append}
+use Rattle.lists.proofs.Padded.{length-padded}
+use Rattle.lcr_core.specs.Outcome.{unless}
 use Rattle.little_endian.specs.Bytes.{bytesLE}
 use Rattle.little_endian.proofs.Pieces.{length-flat}
+use Rattle.finders.specs.Answer.{findRefusal, findersOf}
 use Rattle.candidates.specs.declared.Detection.{Detection}
 use Rattle.candidates.specs.declared.Detections.{Detections}
 use Rattle.candidates.specs.Detection.{zeroDetection}
-use Rattle.candidates.specs.Candidates.{tableOf}
+use Rattle.candidates.specs.Candidates.{tableOf, answered, detectionsOf, detectAnswer}
+use Rattle.candidates.proofs.Theorems.{three-at-most}
 use Rattle.firmware.specs.Firmware.{finderBytes, detectionBytes, detectionSize, firmwareBytes, firmwareSize}
 use Rattle.firmware.proofs.Bytes.{length-detection}
 
@@ -24,6 +28,20 @@ zero-bytes = refl
 pub length-firmware : (t : Detections) → length (t .at) ≡ 3 → length (firmwareBytes t) ≡ firmwareSize
 unfolding firmwareBytes bytesLE
 length-firmware t e = ap suc (length-flat detectionBytes detectionSize length-detection (t .at) ∙ ap (λ z. detectionSize * z) e)
+
+-- so has every answer, as that for a picture of bits
+answered-bytes : (n : ℕ) (ds : List Detection) → length ds ≤ 3 → length (firmwareBytes (answered n ds .detections)) ≡ firmwareSize
+answered-bytes n ds l = length-firmware (tableOf (unless n [] ds)) (length-padded 3 zeroDetection (unless n [] ds) (few n l))
+  where
+    few : (n : ℕ) → length ds ≤ 3 → length (unless n [] ds) ≤ 3
+    few zero l = l
+    few (suc n) l = omega arith
+
+pub answer-bytes : (bits : List ℕ) (w h : ℕ) → length (firmwareBytes (detectAnswer bits w h .detections)) ≡ firmwareSize
+unfolding detectAnswer
+answer-bytes bits w h =
+    let fs = findersOf bits w h in
+    answered-bytes (findRefusal bits w h) (detectionsOf bits w h fs) (three-at-most bits w h fs)
 
 replicate-more : {A : Type 0} (z : A) (a b : ℕ) → replicate a z ++ replicate b z ≡ replicate (a + b) z
 replicate-more z zero b = ap (λ n. replicate n z) (let e : b ≡ 0 + b = omega arith in e)

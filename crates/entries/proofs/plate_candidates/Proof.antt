@@ -1,16 +1,19 @@
 -- `entries::plate_candidates` meets its contract. Assumes nothing.
-use mathlib.Core.Path.{sym, ap, _∙_}
+use mathlib.Core.Path.{refl}
 use Rattle.lcr_core.proofs.Checks.{unless-refused}
-use Rattle.candidates.specs.declared.Answer.{Answer}
+use Rattle.entries.proofs.Room.{check-refused, search-answered, found-written}
 use borrow.Author.Needs.{needs}
 use Rattle.entries.proofs.plate_candidates.Statement.{statement}
 use Rattle.entries.proofs.plate_candidates.Tie as tie
 
-detect-candidates-requires : tie.Need-detect-candidates-requires
-detect-candidates-requires c κs = search needs
+check-candidates-requires : tie.Need-check-candidates-requires
+check-candidates-requires c κs = search needs
 
 returns : tie.Need-returns
-returns c = (ap (λ (a : Answer). a .refusal) (c .before .detect-candidates .ensures), unless-refused _ _ _ (c .if1 .taken))
+returns c = (check-refused _ _ _ _ _ (c .before .check-candidates .ensures) (c .if1 .taken), unless-refused _ _ _ (c .if1 .taken))
+
+detect-candidates-requires : tie.Need-detect-candidates-requires
+detect-candidates-requires c κs = search needs
 
 put-detections-requires : tie.Need-put-detections-requires
 put-detections-requires c κs = search needs
@@ -20,10 +23,22 @@ same-length c = search needs
 
 returns-2 : tie.Need-returns-2
 returns-2 c =
+    let n = c .before .before .before .before .before .before .before .before .check-candidates .ensures in
+    let z = c .before .before .before .before .before .before .before .if1 .left in
     let e = c .before .before .before .before .before .before .detect-candidates .ensures in
-    (sym (c .before .before .before .before .before .if1 .left) ∙ ap (λ (a : Answer). a .refusal) e, rw (← e) (c .before .before .put-detections .ensures))
+    (search-answered _ _ _ _ _ n z _ e, found-written _ _ _ _ _ n z _ e (c .before .before .before .before .before .if2 .taken) _ _ refl (c .before .before .put-detections .ensures))
+
+returns-3 : tie.Need-returns-3
+returns-3 c = (search-answered _ _ _ _ _ (c .before .before .before .check-candidates .ensures) (c .before .before .if1 .left) _ (c .before .detect-candidates .ensures), unless-refused _ _ _ (c .if2 .left))
 
 pub plate-candidates-spec : {M : Type 1} → statement M
 plate-candidates-spec =
     tie.close
-    (tie.spec detect-candidates-requires returns put-detections-requires same-length returns-2)
+    (tie.spec
+    check-candidates-requires
+    returns
+    detect-candidates-requires
+    put-detections-requires
+    same-length
+    returns-2
+    returns-3)
