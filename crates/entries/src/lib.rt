@@ -1,10 +1,12 @@
 // C entries of the single stages, for measurements: numbers as themselves, a slice as its pointer and its length. Each gives the number of its stage's refusal, or 0.
+use lcr_core::Outcome;
+use lcr_core::number;
 ghost use mathlib.Core.Path.{_≡_};
 ghost use mathlib.Core.List.{_∷_, []};
 ghost use Prim.Native.Nat.{_*_};
 ghost use lib.ListN.{length};
 ghost use Rattle.lists.specs.Lists.{filled};
-ghost use Rattle.lcr_core.specs.Outcome.{firstOf, unless};
+ghost use Rattle.lcr_core.specs.Outcome.{numberOf, firstOf, unless};
 ghost use Rattle.binary.specs.Binary.{byteOf, bytesOf};
 ghost use Rattle.image.specs.Gray.{grayRefusal, grayWritten};
 ghost use Rattle.image.specs.Denoise.{denoisedRefusal, denoisedWritten};
@@ -29,7 +31,7 @@ pub extern "C" fn plate_gray(
     ensures number { λ r. ⌜ r ≡ grayRefusal (length (now (picture .entry))) width height stride format (length (now (gray .entry))) ⌝ }
     ensures written { λ _. ⌜ now (gray .exit) ≡ grayWritten (now (picture .entry)) width height stride format (now (gray .entry)) ⌝ }
 {
-    lcr_core::number(image::gray::gray_buffer(picture, width, height, stride, format, gray))
+    number(image::gray::gray_buffer(picture, width, height, stride, format, gray))
 }
 
 // Black and white conversion.
@@ -60,7 +62,7 @@ pub extern "C" fn plate_binarize(
     ensures bits { λ r. ⌜ now (bits .exit) ≡ unless r (now (bits .entry))
         (filled (bytesOf (width * height)) (byteOf (isDark (now (gray .entry)) width height)) (now (bits .entry))) ⌝ }
 {
-    lcr_core::number(binarize::binarize(
+    number(binarize::binarize(
         gray,
         width,
         height,
@@ -79,7 +81,7 @@ pub extern "C" fn plate_denoised(bits: &[u8], width: u32, height: u32, denoised:
     ensures number { λ r. ⌜ r ≡ denoisedRefusal (length (now (bits .entry))) width height (length (now (denoised .entry))) ⌝ }
     ensures written { λ _. ⌜ now (denoised .exit) ≡ denoisedWritten (now (bits .entry)) width height (now (denoised .entry)) ⌝ }
 {
-    lcr_core::number(image::denoise::denoised(bits, width, height, denoised))
+    number(image::denoise::denoised(bits, width, height, denoised))
 }
 
 // The finder search, which leaves the stored list.
@@ -100,17 +102,17 @@ pub extern "C" fn plate_finders(bits: &[u8], width: u32, height: u32, list: &mut
 }
 
 // What is refused before the search, for so many bytes of bits and of room.
-fn check_candidates(len: usize, width: u32, height: u32, room: usize) -> u8
-    ensures { λ r. ⌜ r ≡ firstOf (roomChecks len width height room) ⌝ }
+fn check_candidates(len: usize, width: u32, height: u32, room: usize) -> Outcome
+    ensures { λ r. ⌜ numberOf r ≡ firstOf (roomChecks len width height room) ⌝ }
 {
-    let n = lcr_core::number(binary::refusal::check_bits(len, width, height));
-    if n != 0 {
-        return n;
+    let checked = binary::refusal::check_bits(len, width, height);
+    if number(checked) != 0 {
+        return checked;
     }
     if room < firmware::SIZE {
-        return 5;
+        return Outcome::ShortOutput;
     }
-    0
+    Outcome::Done
 }
 
 // The detections, which leaves the firmware's bytes.
@@ -125,7 +127,7 @@ pub extern "C" fn plate_candidates(
     ensures detections { λ r. ⌜ now (detections .exit) ≡ unless r (now (detections .entry))
         (over (firmwareBytes (detectAnswer (now (bits .entry)) width height .detections)) (now (detections .entry))) ⌝ }
 {
-    let n = check_candidates(bits.len(), width, height, detections.len());
+    let n = number(check_candidates(bits.len(), width, height, detections.len()));
     if n != 0 {
         return n;
     }
