@@ -1,11 +1,13 @@
 -- Parts of records as they are read, and of answers as they are written, one after the other. Assumes nothing.
 use mathlib.Core.Path.{_≡_, refl, sym, ap, ap₂, _∙_}
+use mathlib.Core.Bool.{false}
 use mathlib.Core.List.{List, [], _∷_, _++_, append-nil}
-use Prim.Native.Nat.{ℕ, zero, suc, _+_, _-_, _*_, _/_, _%_, _≤_, _<_}
+use Prim.Native.Nat.{ℕ, zero, suc, _+_, _-_, _*_, _/_, _%_, _≤_, _<_, min}
 use native.Mathlib.Nat.{add-zero}
 use native.Mathlib.Numerals.{add-one}
 use native.Mathlib.Omega.{arith}
-use lib.ListN.{length, take, drop, getD, set, length-append, length-set}
+use lib.Dec.{eqb}
+use lib.ListN.{length, take, drop, getD, set, replicate, length-append, length-set}
 use lib.Seq.{take-all, take-length, drop-length, length-take-le}
 use lib.Ieee.{Float, nan, binary32, toBits}
 use Rattle.lists.specs.Lists.{tabulate, filled, flatMap}
@@ -20,7 +22,8 @@ use Rattle.finders.specs.declared.Finders.{Finders}
 use Rattle.finders.specs.Answer.{heldIn}
 use Rattle.firmware.specs.Firmware.{singleBytes, finderBytes}
 use Rattle.firmware.proofs.Bytes.{length-finder}
-use Rattle.record.specs.Record.{doubleAt, doublesAt, finderAt, findersAt, pointBytes, findersBytes, digitOf, byteDigits}
+use Rattle.record.specs.declared.Line.{Line}
+use Rattle.record.specs.Record.{doubleAt, doublesAt, finderAt, findersAt, pointBytes, findersBytes, digitOf, byteDigits, digitsLine, mostBytes, answerLine, lineOf}
 
 -- ---- numbers
 
@@ -133,3 +136,19 @@ unfolding put
 spelled-end f l text i e =
     let z : 2 * i ≡ 0 + 2 * i = omega arith in
     ap (λ t. set t (2 * i) 10) e ∙ put-then (2 * i) (flatMap byteDigits (tabulate i f)) (10 ∷ []) 0 (2 * i) l (length-spelled f i) z
+
+-- ---- the line that answers a call
+
+-- none
+pub dash-line : (n : ℕ) (out : List ℕ) → n ≡ 0 → lineOf (45 ∷ 10 ∷ []) ≡ lineOf (answerLine n out)
+unfolding answerLine
+dash-line n out e = rw e
+
+length-line : (n : ℕ) (out : List ℕ) → length (digitsLine n out) ≡ 2 * n + 1
+length-line n out = length-append (flatMap byteDigits (tabulate n (λ i. getD out i 0))) (10 ∷ []) ∙ ap (λ z. z + 1) (length-spelled (λ i. getD out i 0) n)
+
+-- m of the bytes asked for
+pub some-line : (n m : ℕ) (out text : List ℕ) (len : ℕ) → eqb n 0 ≡ false → m ≡ min n mostBytes
+    → text ≡ put (digitsLine m out) 0 (replicate 4609 0) → len ≡ 2 * m + 1 → record { text = text; len = len } ≡ lineOf (answerLine n out)
+unfolding answerLine
+some-line n m out text len h e t l = rw (h, ← e, t, l, length-line m out)

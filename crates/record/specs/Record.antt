@@ -1,16 +1,16 @@
 -- Parts of records and answers (docs/REPLAY.md, "Form"): "All numbers are little-endian, floats are their bits." A byte beyond a slice reads as 0 and is not
 -- written. The bytes of floats, finders, transforms and detections are the firmware's. Definitions only.
-use Prim.Native.Nat.{ℕ, zero, suc, _+_, _*_, _/_, _%_, _^_, _≤_}
+use Prim.Native.Nat.{ℕ, zero, suc, _+_, _*_, _/_, _%_, _^_, _≤_, min}
 use mathlib.Core.Path.{_≡_}
 use mathlib.Core.Logic.{_⊎_}
 use mathlib.Core.Bool.{Bool, true, false, cond}
 use mathlib.Core.List.{List, [], _∷_, _++_}
 use lib.Dec.{eqb, ltb}
 use lib.Bits.{bitXor}
-use lib.ListN.{length, take, drop, getD}
+use lib.ListN.{length, take, drop, getD, replicate}
 use lib.Ieee.{Float, nan, binary32, binary64, ofBits}
 use Rattle.lists.specs.Lists.{tabulate, flatMap, folded}
-use Rattle.little_endian.specs.Bytes.{bytesLE, readLE}
+use Rattle.little_endian.specs.Bytes.{bytesLE, readLE, put}
 use Rattle.transform.specs.declared.Point.{Point}
 use Rattle.transform.specs.declared.Transform.{Transform}
 use Rattle.geometry.specs.declared.Finder.{Finder}
@@ -20,6 +20,7 @@ use Rattle.finders.specs.Search.{maxFinders}
 use Rattle.finders.specs.Answer.{heldIn}
 use Rattle.candidates.specs.declared.Detections.{Detections}
 use Rattle.record.specs.declared.Call.{Call}
+use Rattle.record.specs.declared.Line.{Line}
 use Rattle.firmware.specs.Firmware.{singleBytes, doubleBytes, finderBytes, firmwareBytes}
 
 -- ---- what stands at a place of a record
@@ -155,6 +156,18 @@ digitOf n = cond (ltb n 10) (48 + n) (87 + n)
 unfoldable pub byteDigits : ℕ → List ℕ
 byteDigits b = digitOf (b / 16 % 16) ∷ digitOf (b % 16) ∷ []
 
--- the first n bytes of an answer, and a line feed
-abbrev pub lineOf : ℕ → List ℕ → List ℕ
-lineOf n out = flatMap byteDigits (tabulate n (λ i. getD out i 0)) ++ (10 ∷ [])
+-- the digits of the first n bytes of an answer, and a line feed
+abbrev pub digitsLine : ℕ → List ℕ → List ℕ
+digitsLine n out = flatMap byteDigits (tabulate n (λ i. getD out i 0)) ++ (10 ∷ [])
+
+-- the most bytes of an answer
+abbrev pub mostBytes : ℕ
+mostBytes = 2304
+
+-- the line that answers a call by the first n bytes, or as many as there are: `-` where n is 0
+unfoldable pub answerLine : ℕ → List ℕ → List ℕ
+answerLine n out = cond (eqb n 0) (45 ∷ 10 ∷ []) (digitsLine (min n mostBytes) out)
+
+-- the bytes of a line, with zeros behind them up to the longest
+abbrev pub lineOf : List ℕ → Line
+lineOf bytes = record { text = put bytes 0 (replicate (2 * mostBytes + 1) 0); len = length bytes }

@@ -1,11 +1,10 @@
 // Records and answers for the replay programs (docs/REPLAY.md): a record is read, numbers stand at places, an answer is a line of digits.
 // A byte beyond a slice reads as 0 and is not written.
 ghost use mathlib.Core.Path.{_≡_};
-ghost use mathlib.Core.Bool.{false};
-ghost use Prim.Native.Nat.{_+_, _*_, _%_, _≤_, _<_};
+ghost use Prim.Native.Nat.{_+_, _*_, _%_, _≤_};
 ghost use lib.ListN.{length};
 ghost use Rattle.little_endian.specs.Bytes.{put};
-ghost use Rattle.record.specs.Record.{fixedPart, askedOf, noCall, ReadInto, digitOf, lineOf};
+ghost use Rattle.record.specs.Record.{fixedPart, askedOf, noCall, ReadInto, digitOf, digitsLine, answerLine, lineOf};
 
 pub mod slices;
 pub mod values;
@@ -18,6 +17,12 @@ pub const ANSWER: usize = 2304;
 pub struct Call {
     pub read: bool,
     pub function: u8,
+    pub len: usize,
+}
+
+// The bytes of a line, with zeros behind them.
+pub struct Line {
+    pub text: [u8; 4609],
     pub len: usize,
 }
 
@@ -115,10 +120,10 @@ fn digit(n: u8) -> u8
     }
 }
 
-// An answer of n bytes as hexadecimal digits and a line end, in text; how many bytes these are.
+// The first n bytes of an answer as hexadecimal digits and a line feed, in text; how many bytes these are.
 fn spell(out: &[u8; ANSWER], n: usize, text: &mut [u8]) -> usize
     requires { ⌜ (n ≤ 2304) × (length (now text) ≡ 4609) ⌝ }
-    ensures line { λ _. ⌜ now (text .exit) ≡ put (lineOf n (now (out .entry))) 0 (now (text .entry)) ⌝ }
+    ensures line { λ _. ⌜ now (text .exit) ≡ put (digitsLine n (now (out .entry))) 0 (now (text .entry)) ⌝ }
     ensures len { λ r. ⌜ r ≡ 2 * n + 1 ⌝ }
 {
     let mut i = 0;
@@ -132,18 +137,17 @@ fn spell(out: &[u8; ANSWER], n: usize, text: &mut [u8]) -> usize
     2 * i + 1
 }
 
-// Prints the first n bytes of an answer, or `-` for none, and says whether that was done. Left free is whether the system takes the line; an answer longer
-// than there are bytes is not printed.
-pub fn print_line(out: &[u8; ANSWER], n: usize) -> bool
-    ensures { λ r. ⌜ (2304 < n → r ≡ false) ⌝ }
+// The line that answers a call by the first n bytes of out, or as many as there are: `-` for none.
+pub fn answer_line(out: &[u8; ANSWER], n: usize) -> Line
+    ensures { λ r. ⌜ r ≡ lineOf (answerLine n (now (out .entry))) ⌝ }
 {
-    if n == 0 {
-        return io::write_all(1, b"-\n");
-    }
-    if 2304 < n {
-        return false;
-    }
     let mut text = [0u8; 4609];
-    let k = spell(out, n, &mut text);
-    io::write_all(1, &text[..k])
+    if n == 0 {
+        text[0] = b'-';
+        text[1] = 10;
+        return Line { text, len: 2 };
+    }
+    let most = if n < ANSWER { n } else { ANSWER };
+    let len = spell(out, most, &mut text);
+    Line { text, len }
 }

@@ -6,7 +6,7 @@ use denote.Ref.{now}
 use lib.ListN.{length, getD, length-set}
 use Rattle.lists.specs.Lists.{tabulate, flatMap}
 use Rattle.little_endian.specs.Bytes.{put}
-use Rattle.record.specs.Record.{byteDigits, lineOf}
+use Rattle.record.specs.Record.{byteDigits, digitsLine}
 use Rattle.record.proofs.Parts.{spelled-more, spelled-end}
 use borrow.Author.Needs.{needs}
 use Rattle.record.proofs.spell.Statement.{statement}
@@ -78,7 +78,7 @@ returns c =
     let l = c .before .loop in
     let a = c .before .before .before .args in
     let e : l .i ≡ a .n = omega arith in
-    (spelled-end (λ k. getD (now (a .out)) k 0) (now (a .text)) (l .text) (l .i) (l .inv .3) ∙ ap (λ z. put (lineOf z (now (a .out))) 0 (now (a .text))) e, omega arith)
+    (spelled-end (λ k. getD (now (a .out)) k 0) (now (a .text)) (l .text) (l .i) (l .inv .3) ∙ ap (λ z. put (digitsLine z (now (a .out))) 0 (now (a .text))) e, omega arith)
 
 pub spell-spec : {M : Type 1} → statement M
 spell-spec =
