@@ -29,6 +29,8 @@ static double f64(const uint8_t *p) {
 /* Where module coordinates are in the picture, by the transform numbers at m. */
 static void print_point(const uint8_t *m, double u, double v) {
     double d = f64(m + 48) * u + f64(m + 56) * v + 1;
+    if (-1e-9 < d && d < 1e-9)
+        d = 1e-9;
     printf(" (%.2f, %.2f)", (f64(m) * u + f64(m + 8) * v + f64(m + 16)) / d, (f64(m + 24) * u + f64(m + 32) * v + f64(m + 40)) / d);
 }
 
@@ -50,29 +52,33 @@ static void print_fix(const uint8_t *p) {
     printf("\n");
 }
 
+/* plate_chain on a gray picture, with n, b, b and five times k bytes of room for the buffers. */
+static uint8_t look(const uint8_t *picture, size_t len, uint32_t w, uint32_t h, uint8_t *room, size_t n, size_t b, size_t k, uint8_t *found) {
+    uint8_t *bits = room + n, *denoised = bits + b, *work = denoised + b;
+    return plate_chain(picture, len, w, h, w, PLATE_GRAY8, room, n, bits, b, denoised, b, work, k, work + k, k, work + 2 * k, k,
+                       work + 3 * k, k, work + 4 * k, k, found, PLATE_DETECTION_BYTES);
+}
+
 int main(void) {
-    uint8_t head[4];
+    uint8_t head[4], none[1], found[PLATE_DETECTION_BYTES];
     if (fread(head, 1, 4, stdin) != 4)
         return fprintf(stderr, "fix: no picture\n"), 2;
     uint32_t w = (uint32_t)number(head, 2), h = (uint32_t)number(head + 2, 2);
-    if (w > PLATE_MAX_SIDE || h > PLATE_MAX_SIDE)
-        return printf("refused %d\n", PLATE_LARGE_SIDE), 1;
-    size_t n = PLATE_GRAY_BYTES(w, h), b = PLATE_BIT_BYTES(w, h), k = PLATE_BLOCKS(w, h);
-    uint8_t *room = malloc(2 * n + 2 * b + 5 * k);
-    if (n && !room)
-        return fprintf(stderr, "fix: no memory\n"), 2;
-    uint8_t *gray = room + n, *bits = gray + n, *denoised = bits + b, *work = denoised + b;
-    uint8_t found[PLATE_DETECTION_BYTES];
-    size_t got = fread(room, 1, n, stdin);
-    uint8_t refused = plate_chain(room, got, w, h, w, PLATE_GRAY8, gray, n, bits, b, denoised, b, work, k, work + k, k,
-                                  work + 2 * k, k, work + 3 * k, k, work + 4 * k, k, found, sizeof found);
-    if (refused) {
-        printf("refused %d\n", refused);
-    } else {
-        printf("%d found\n", found[0]);
-        for (int i = 0; i < found[0]; i++)
-            print_fix(found + 1 + 122 * i);
+    /* sides that will do are refused only for the missing bytes; only then is there memory to ask for */
+    uint8_t refused = look(head, 0, w, h, none, 0, 0, 0, found);
+    if (refused == PLATE_SHORT_PICTURE) {
+        size_t n = PLATE_GRAY_BYTES(w, h), b = PLATE_BIT_BYTES(w, h), k = PLATE_BLOCKS(w, h);
+        uint8_t *picture = malloc(2 * n + 2 * b + 5 * k);
+        if (!picture)
+            return fprintf(stderr, "fix: no memory\n"), 2;
+        size_t got = fread(picture, 1, n, stdin);
+        refused = look(picture, got, w, h, picture + n, n, b, k, found);
+        free(picture);
     }
-    free(room);
-    return refused != 0;
+    if (refused)
+        return printf("refused %d\n", refused), 1;
+    printf("%d found\n", found[0]);
+    for (int i = 0; i < found[0]; i++)
+        print_fix(found + 1 + 122 * i);
+    return 0;
 }

@@ -2,8 +2,15 @@
 
    `rt staticlib chain` builds target/staticlib/libchain.a (x86-64, needs only memcpy and memset). The function allocates nothing, keeps
    nothing between calls, and may run in several threads on different buffers. It takes any numbers and lengths: what is unfit is refused.
-   Its contract, which is proved, stands in crates/chain/src/entry.rt. The caller sees to what C cannot say: a pointer is not null and
-   leads to as many bytes as its length says, and no buffer that is written overlaps another one. */
+   Its contract, which is proved, stands in crates/chain/src/entry.rt.
+
+   What the caller sees to, since no length or number says it:
+   - A pointer is not null, also where its length is 0, and leads to as many bytes as its length says. No buffer that is written overlaps
+     another one.
+   - The floating-point environment is the one that a C program starts in: rounding to nearest, every exception masked, neither flush to
+     zero nor denormals are zero (MXCSR as 0x1f80, status flags aside). With another rounding the detections are other bytes; with invalid
+     or inexact unmasked an ordinary picture traps. The call leaves status flags set, as float operations do, and changes nothing else of it.
+   - There are PLATE_STACK_BYTES of stack. */
 #ifndef SIRVOLTHA_H
 #define SIRVOLTHA_H
 
@@ -36,8 +43,9 @@ enum { PLATE_GRAY8 = 1, PLATE_RGB8 = 3, PLATE_RGBA8 = 4 };
 #define PLATE_BLOCKS(w, h) ((((size_t)(w) + 7) / 8) * (((size_t)(h) + 7) / 8))
 #define PLATE_DETECTION_BYTES 367
 
-/* A call takes less stack than this, whatever the picture: 28,896 bytes and what memcpy takes (README.md). */
-#define PLATE_STACK_BYTES 32768
+/* A call takes less stack than this, whatever the picture: 28,896 bytes, and where the dynamic linker binds memcpy at its first call what it
+   takes for that, 3,016 bytes as measured (README.md). It holds for the single stages of sirvoltha_stages.h too. */
+#define PLATE_STACK_BYTES 40960
 
 /* Looks for plates in a picture.
 
@@ -59,11 +67,12 @@ enum { PLATE_GRAY8 = 1, PLATE_RGB8 = 3, PLATE_RGBA8 = 4 };
                                         122 bytes, best first, all zero where nothing was found. In a place, by offset:
                                            0  three finders (top left, top right, bottom left), 16 bytes each:
                                               x, y, module in pixels (f32), confirmations (u32)
-                                          48  version, 1 to 64 (u8)
+                                          48  version, 1 to 32 (u8)
                                           49  marker flag, 1 or 0 (u8)
                                           50  marker x and y in pixels (f32), 0 without a marker
                                           58  eight transform numbers m0 to m7 (f64): module coordinates (u, v) are at pixel
-                                              ((m0 u + m1 v + m2) / d, (m3 u + m4 v + m5) / d), d = m6 u + m7 v + 1
+                                              ((m0 u + m1 v + m2) / d, (m3 u + m4 v + m5) / d), d = m6 u + m7 v + 1,
+                                              but d = 1e-9 where this is less than 1e-9 from 0
 
    Returns PLATE_DONE or a refusal. After 1 to 5 no byte has been written. After 6 detections is untouched, and the other buffers hold
    what they would hold after 0. */

@@ -1,5 +1,6 @@
-//! The C entries of the static libraries: the one place that declares them. Numbers go as themselves, a byte slice as its
-//! pointer and its length. `plate_chain` is in libchain.a, the stages alone are in libentries.a.
+//! The C entries of the static libraries, as include/sirvoltha.h (`plate_chain`, in libchain.a) and
+//! include/sirvoltha_stages.h (the stages alone, in libentries.a) declare them for C. Numbers go as themselves, a byte
+//! slice as its pointer and its length.
 
 unsafe extern "C" {
     fn plate_gray(

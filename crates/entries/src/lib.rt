@@ -1,4 +1,5 @@
-// C entries of the single stages, for measurements: numbers as themselves, a slice as its pointer and its length. Each gives the number of its stage's refusal, or 0.
+// C entries of the single stages, for measurements and tests: numbers as themselves, a slice as its pointer and its length. Each gives the number of its
+// stage's refusal, or 0.
 use lcr_core::Outcome;
 use lcr_core::number;
 ghost use mathlib.Core.Path.{_≡_};
