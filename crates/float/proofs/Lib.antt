@@ -2,6 +2,7 @@ pub mod Numbers
 pub mod Unique
 pub mod Patterns
 pub mod Magnitudes
+pub mod Nearness
 pub mod Signs
 pub mod Order
 pub mod Ops

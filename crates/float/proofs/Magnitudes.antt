@@ -23,7 +23,7 @@ use Rattle.float.proofs.Patterns.{top-above, with-sign, sign-of, mag-of
 
 -- ---- the finite magnitudes are those below 2 ^ (emax + 1)
 
-abbrev limit : Format → ℕ
+abbrev pub limit : Format → ℕ
 limit f = 2 ^ (low f + suc (emax f))
 
 pub sig-lt : (f : Format) (a : ℕ) → sig f a < 2 ^ prec f
@@ -61,14 +61,14 @@ pub expo-le : (f : Format) (a : ℕ) → a < ones f * hid f → expo f a ≤ one
 expo-le binary32 a h = omega arith
 expo-le binary64 a h = omega arith
 
-limit-is : (f : Format) → 2 ^ prec f * 2 ^ (ones f - 2) ≡ limit f
+pub limit-is : (f : Format) → 2 ^ prec f * 2 ^ (ones f - 2) ≡ limit f
 limit-is f = sym (pow-add 2 (prec f) (ones f - 2)) ∙ ap (λ (x : ℕ). 2 ^ x) (exps f)
   where
     exps : (f : Format) → prec f + (ones f - 2) ≡ low f + suc (emax f)
     exps binary32 = refl
     exps binary64 = refl
 
-limit-hid : (f : Format) → hid f * 2 ^ (ones f - 1) ≡ limit f
+pub limit-hid : (f : Format) → hid f * 2 ^ (ones f - 1) ≡ limit f
 limit-hid f = sym (pow-add 2 (prec f - 1) (ones f - 1)) ∙ ap (λ (x : ℕ). 2 ^ x) (exps f)
   where
     exps : (f : Format) → prec f - 1 + (ones f - 1) ≡ low f + suc (emax f)
@@ -146,7 +146,7 @@ val-pack f q k h = go (ltb q (hid f)) (ltb→lt q (hid f)) (nltb→le q (hid f))
 
 -- ---- what `units` and `round` give, as a pattern
 
-over : (f : Format) (s : Bool) (q k : ℕ) → limit f ≤ q * 2 ^ k → units f s q k ≡ inf s
+pub over : (f : Format) (s : Bool) (q k : ℕ) → limit f ≤ q * 2 ^ k → units f s q k ≡ inf s
 unfolding units
 over f s q k h = ap (λ (t : Bool). cond t (odd (suc (prec f)) s q k (low f)) (inf s)) (le-ltb (q * 2 ^ k) (limit f) h)
 
@@ -196,17 +196,21 @@ units-bits f s q k h = go (ltb a I) (ltb→lt a I) (nltb→le a I)
 all-in-use : (z p : ℕ) → 0 < p → 0 < z - p → p - 1 + (z - p) < z
 all-in-use z p P h = omega arith
 
+pub all-digits : (f : Format) (n den : ℕ) → 0 < drop (prec f) n den → hid f ≤ n / (den * 2 ^ drop (prec f) n den)
+all-digits f n den K =
+    let p = prec f in
+    let k = drop p n den in
+    let w = n / den in
+    subst (λ (x : ℕ). 2 ^ (p - 1) ≤ x) (div-div-eq-div-mul n den (2 ^ k)) (le-div-iff-mul-le (pow-pos k) .1
+    (le-trans (le-of-eq (sym (pow-add 2 (p - 1) k))) (size-reaches w (p - 1 + k) (all-in-use (size w) p (two-le-pos p (two f)) K))))
+
 pub round-keeps : (f : Format) (n den : ℕ) → Kept f (kept (prec f) n den) (drop (prec f) n den)
 round-keeps f n den =
     let p = prec f in
     let k = drop p n den in
-    let u = den * 2 ^ k in
-    let w = n / den in
-    let e = div-div-eq-div-mul n den (2 ^ k) in (
-      le-trans (nearest-le (n / u) (compare (n % u * 2) u)) (subst (λ (x : ℕ). x < 2 ^ p) e (kept-lt p w)),
-      λ K. le-trans (subst (λ (x : ℕ). 2 ^ (p - 1) ≤ x) e (le-div-iff-mul-le (pow-pos k) .1
-          (le-trans (le-of-eq (sym (pow-add 2 (p - 1) k))) (size-reaches w (p - 1 + k) (all-in-use (size w) p (two-le-pos p (two f)) K)))))
-          (nearest-ge (n / u) (compare (n % u * 2) u)),
+    let u = den * 2 ^ k in (
+      le-trans (nearest-le (n / u) (compare (n % u * 2) u)) (subst (λ (x : ℕ). x < 2 ^ p) (div-div-eq-div-mul n den (2 ^ k)) (kept-lt p (n / den))),
+      λ K. le-trans (all-digits f n den K) (nearest-ge (n / u) (compare (n % u * 2) u)),
     )
 
 pub round-bits : (f : Format) (s : Bool) (num den : ℕ) → round f s num den ≡ ofBits f (with-sign f s (roundMag f num den))
@@ -254,6 +258,12 @@ own-magnitude f x s n c p v = go (ltb a I) (ltb→lt a I) (nltb→le a I)
       | inl e ↦ absurd (no x (leb (top f) b) (inr (sym is ∙ bits-inf f b (sym e))) v)
       | inr l ↦ absurd (no x true (inl (sym is ∙ bits-nan f b l)) v)
     ]
+
+-- its size, in units of the format's smallest value, is that of a magnitude
+pub size-of : (f : Format) (x : Float) (s : Bool) (n : ℕ) → T (fits f x) → HasValue x s n (2 ^ low f) → (a : ℕ) × (a < ones f * hid f) × (n ≡ val f a)
+size-of f x s n p v =
+    let z = own-magnitude f x s n (2 ^ low f) p v in
+    (z .0, z .1, eq-of-mul-eq-mul-right (2 ^ low f) (pow-pos (low f)) n (val f (z .0)) (value-ratio x s s n (2 ^ low f) (val f (z .0)) (2 ^ low f) v (z .2)))
 
 -- it rounds to itself
 pub round-own : (f : Format) (x : Float) (s : Bool) (n c : ℕ) → 0 < c → T (fits f x) → HasValue x s n c → round f s n c ≡ x

@@ -4,14 +4,14 @@ use mathlib.Core.Logic.{_⊎_, inl, inr}
 use Prim.Native.Nat.{ℕ, suc, _+_, _-_, _*_, _/_, _%_, _^_, _≤_, _<_, compare, min, Ordering, Ordering·lt, Ordering·eq, Ordering·gt}
 use native.Mathlib.Nat.{le-trans, le-of-eq, le-of-lt, lt-of-lt-of-le, lt-of-le-of-lt, not-le-of-lt, lt-of-not-le, le-of-suc-le-suc, add-mul, mul-comm, mul-assoc, mul-left-comm, mul-mul-mul-comm, mul-le-mul, mul-le-mul-right, mul-lt-mul-of-pos-right, lt-of-mul-lt-mul-right, eq-of-mul-eq-mul-right, mul-pos, div-div-eq-div-mul, eq-or-lt-of-le}
 use native.Mathlib.Omega.{arith}
-use mathlib.Core.Bool.{Bool, true, false, not}
-use lib.Dec.{T, leb, leb→le, nleb→lt, lit<}
-use lib.Pow.{pow-add, pow-pos, pow-mono, shl-lt}
+use mathlib.Core.Bool.{false}
+use lib.Dec.{lit<}
+use lib.Pow.{pow-add, pow-pos, pow-mono}
 use lib.Ieee.{Float, binary32, size, nearest, units, ofBits}
 use lib.Ieee.Exact.{HasValue, units-val}
 use Rattle.float.specs.Floats.{root, sqrtUnits}
 use Rattle.float.proofs.Magnitudes.{units-bits}
-use Rattle.float.proofs.Numbers.{Cmp, cmp, quot, bit, two-ways, size-at}
+use Rattle.float.proofs.Numbers.{Cmp, cmp, quot, bit, two-ways, size-at, gap}
 use Rattle.float.proofs.Squares.{sq-le, sq-lt, sq-mono, sq-suc, sq-twice, IsRoot, root-is}
 
 -- ---- The float nearest to √(p * 4 ^ h) smallest values, where the whole part r of √p has 25 digits. p is even, so that √p is no odd number and no root is half-way
@@ -135,27 +135,6 @@ module _ (p h r : ℕ) (i : IsRoot p r) (lo : 2 ^ 48 ≤ p) (hi : p < 2 ^ 50) (e
   above-root : (s g : ℕ) → g * 2 ^ h ≤ s → 4 * p < g * g → 4 * (p * (2 ^ h * 2 ^ h)) < s * s
   above-root s g a b = lt-of-lt-of-le (lt-of-le-of-lt (le-of-eq (sym (mul-assoc 4 p (2 ^ h * 2 ^ h)))) (lt-of-lt-of-le (mul-lt-mul-of-pos-right b room) (le-of-eq (sym (scale g))))) (mul-le-mul a a)
 
-  -- the next number of the format above q * 2 ^ k is (q + 1) * 2 ^ k
-  gap : (q k m j : ℕ) → 2 ^ 23 ≤ q → m < 2 ^ 24 → q * 2 ^ k < m * 2 ^ j → (q + 1) * 2 ^ k ≤ m * 2 ^ j
-  gap q k m j Q M l = go (leb k j) (leb→le k j) (nleb→lt k j)
-    where
-      go : (t : Bool) → (T t → k ≤ j) → (T (not t) → j < k) → (q + 1) * 2 ^ k ≤ m * 2 ^ j
-      go true a b =
-          let e : m * 2 ^ j ≡ m * 2 ^ (j - k) * 2 ^ k = ap (λ (x : ℕ). m * 2 ^ x) (back j k (a tt)) ∙ ap (λ (x : ℕ). m * x) (pow-add 2 (j - k) k) ∙ sym (mul-assoc m (2 ^ (j - k)) (2 ^ k)) in
-          let c : q < m * 2 ^ (j - k) = lt-of-mul-lt-mul-right (2 ^ k) (lt-of-lt-of-le l (le-of-eq e)) in
-          le-trans (mul-le-mul-right (2 ^ k) (step c)) (le-of-eq (sym e))
-        where
-          back : (j k : ℕ) → k ≤ j → j ≡ j - k + k
-          back j k h = omega arith
-
-          step : {x : ℕ} → q < x → q + 1 ≤ x
-          step h = omega arith
-      go false a b =
-          absurd (not-le-of-lt l (le-trans (le-of-lt (shl-lt 24 j M)) (le-trans (pow-mono (room-for j k (b tt))) (le-trans (le-of-eq (pow-add 2 23 k)) (mul-le-mul-right (2 ^ k) Q)))))
-        where
-          room-for : (j k : ℕ) → j < k → 24 + j ≤ 23 + k
-          room-for j k h = omega arith
-
   strict : (g : ℕ) → g % 2 ≡ 1 → g * g ≤ p → g * g < p
   strict g o l = other (eq-or-lt-of-le l)
     where
@@ -205,7 +184,7 @@ module _ (p h r : ℕ) (i : IsRoot p r) (lo : 2 ^ 48 ≤ p) (hi : p < 2 ^ 50) (e
       go : (r % 2 ≡ 0) ⊎ (r % 2 ≡ 1) → (near < w → 4 * (p * (2 ^ h * 2 ^ h)) < (near + w) * (near + w)) × (w < near → (near + w) * (near + w) < 4 * (p * (2 ^ h * 2 ^ h)))
       go (inl z) =
           let e : r ≡ (r + 1) / 2 * 2 = omega arith in (
-            λ l. above-root (near + w) (2 * (r + 1)) (even-above near w q (2 ^ (h + 1)) (2 ^ h) r refl pow-next (near-is r e) (gap q (h + 1) m j q-ge M l)) (sq-over (i .1)),
+            λ l. above-root (near + w) (2 * (r + 1)) (even-above near w q (2 ^ (h + 1)) (2 ^ h) r refl pow-next (near-is r e) (gap 24 q (h + 1) m j (lit< tt) (λ _. q-ge) M l)) (sq-over (i .1)),
             λ l. to-root (near + w) (2 * r) (even-below near w (2 ^ h) r (near-is r e) l) (sq-under (i .0)),
           )
       go (inr z) =
@@ -216,7 +195,7 @@ module _ (p h r : ℕ) (i : IsRoot p r) (lo : 2 ^ 48 ≤ p) (hi : p < 2 ^ 50) (e
           let Q-ge : 2 ^ 23 ≤ Q = omega arith in (
             λ l. above-root (near + w) (2 * (r + 1)) (odd-above near w (2 ^ h) r (near-is (r + 1) e) l) (sq-over (i .1)),
             λ l. below-root (near + w) (2 * r) (odd-below near w Q (2 ^ (h + 1)) (2 ^ h) r (ap (λ (x : ℕ). x * 2 ^ (h + 1)) Q-is) pow-next (near-is (r + 1) e)
-                (no-more (λ (g : Q * 2 ^ (h + 1) < w). not-le-of-lt l (le-trans (le-of-eq (ap (λ (x : ℕ). x * 2 ^ (h + 1)) Q-is)) (gap Q (h + 1) m j Q-ge M g))))) (sq-below (strict r z (i .0))),
+                (no-more (λ (g : Q * 2 ^ (h + 1) < w). not-le-of-lt l (le-trans (le-of-eq (ap (λ (x : ℕ). x * 2 ^ (h + 1)) Q-is)) (gap 24 Q (h + 1) m j (lit< tt) (λ _. Q-ge) M g))))) (sq-below (strict r z (i .0))),
           )
         where
           no-more : {x y : ℕ} → (x < y → ⊥) → y ≤ x
