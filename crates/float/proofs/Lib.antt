@@ -7,6 +7,7 @@ pub mod Signs
 pub mod Order
 pub mod Ops
 pub mod Exactly
+pub mod Places
 pub mod Casting
 pub mod Rounding
 pub mod Narrowing

@@ -2,8 +2,8 @@
 -- Assumes nothing.
 use mathlib.Core.Path.{_≡_, refl, sym, ap, _∙_, subst}
 use mathlib.Core.Logic.{_⊎_, inl, inr}
-use Prim.Native.Nat.{ℕ, suc, _+_, _-_, _*_, _/_, _%_, _^_, _≤_, _<_, compare, min}
-use native.Mathlib.Nat.{le-refl, le-trans, le-of-eq, le-of-lt, lt-of-lt-of-le, lt-of-le-of-lt, mul-assoc, mul-right-comm, mul-pos, mul-le-mul, mul-lt-mul-of-pos-right, eq-of-mul-eq-mul-right, pow-succ', le-div-iff-mul-le, div-div-eq-div-mul, eq-zero-or-pos, eq-or-lt-of-le}
+use Prim.Native.Nat.{ℕ, zero, suc, zero-le, _+_, _-_, _*_, _/_, _%_, _^_, _≤_, _<_, compare, min}
+use native.Mathlib.Nat.{le-refl, le-suc, le-of-suc-le-suc, not-le-of-lt, add-suc, le-trans, le-of-eq, le-of-lt, lt-of-lt-of-le, lt-of-le-of-lt, mul-assoc, mul-right-comm, mul-pos, mul-le-mul, mul-lt-mul-of-pos-right, eq-of-mul-eq-mul-right, pow-succ', le-div-iff-mul-le, div-div-eq-div-mul, eq-zero-or-pos, eq-or-lt-of-le}
 use native.Mathlib.Omega.{arith}
 use mathlib.Core.Bool.{Bool, true, false, not, cond}
 use lib.Dec.{T, leb, ltb, ltb→lt, nltb→le}
@@ -143,6 +143,43 @@ val-pack f q k h = go (ltb q (hid f)) (ltb→lt q (hid f)) (nltb→le q (hid f))
         let r = sub-field f q (a tt) in
         ap (λ (x : ℕ). val f (x * hid f + q)) z ∙ ap (λ (x : ℕ). val f x) (r .0)
         ∙ split f q 0 true q (lt-ltb q (hid f) (a tt)) (ap (λ (x : ℕ). q * 2 ^ x) (r .1)) ∙ ap (λ (x : ℕ). q * 2 ^ x) (sym z)
+
+-- ---- a larger magnitude is a larger number
+fields : (f : Format) (a : ℕ) → a ≡ expo f a * hid f + sig f a
+fields f a = go (ltb a (hid f)) (ltb→lt a (hid f)) (nltb→le a (hid f))
+  where
+    low-part : (f : Format) (a : ℕ) → a < hid f → a ≡ expo f a * hid f + a
+    low-part binary32 a h = omega arith
+    low-part binary64 a h = omega arith
+
+    high-part : (f : Format) (a : ℕ) → hid f ≤ a → a ≡ expo f a * hid f + (hid f + a % hid f)
+    high-part binary32 a h = omega arith
+    high-part binary64 a h = omega arith
+
+    go : (t : Bool) → (T t → a < hid f) → (T (not t) → hid f ≤ a) → a ≡ expo f a * hid f + cond t a (hid f + a % hid f)
+    go true l g = low-part f a (l tt)
+    go false l g = high-part f a (g tt)
+
+val-next : (f : Format) (a : ℕ) → val f a < val f (suc a)
+val-next f a =
+    let q = sig f a in
+    let k = expo f a in
+    lt-of-lt-of-le (mul-lt-mul-of-pos-right (le-refl (suc q)) (pow-pos k))
+    (le-of-eq (sym (ap (val f) (ap suc (fields f a) ∙ sym (add-suc (k * hid f) q)) ∙ val-pack f (suc q) k (sig-lt f a, λ K. le-trans (sig-ge f a (normal f a K)) (le-suc q)))))
+  where
+    normal : (f : Format) (a : ℕ) → 0 < expo f a → hid f ≤ a
+    normal binary32 a h = omega arith
+    normal binary64 a h = omega arith
+
+pub val-mono : (f : Format) (a b : ℕ) → a < b → val f a < val f b
+val-mono f a zero h = absurd (not-le-of-lt h zero-le)
+val-mono f a (suc b) h = elim (eq-or-lt-of-le (le-of-suc-le-suc h)) [
+  | inl e ↦ subst (λ (x : ℕ). val f x < val f (suc b)) (sym e) (val-next f b)
+  | inr l ↦ lt-of-lt-of-le (val-mono f a b l) (le-of-lt (val-next f b))
+]
+
+pub val-le : (f : Format) (a b : ℕ) → a ≤ b → val f a ≤ val f b
+val-le f a b h = elim (eq-or-lt-of-le h) [ inl e ↦ le-of-eq (ap (val f) e) | inr l ↦ le-of-lt (val-mono f a b l) ]
 
 -- ---- what `units` and `round` give, as a pattern
 

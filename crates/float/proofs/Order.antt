@@ -61,7 +61,7 @@ ltb-scale a b k K = go (ltb a b) refl
     go true h = lt-ltb (a * k) (b * k) (mul-lt-mul-of-pos-right (ltb-true a b h) K)
     go false h = le-ltb (a * k) (b * k) (mul-le-mul-right k (ltb-false a b h))
 
-below-scale : (s : Bool) (a : ℕ) (t : Bool) (b : ℕ) (k : ℕ) → 0 < k → below s (a * k) t (b * k) ≡ below s a t b
+pub below-scale : (s : Bool) (a : ℕ) (t : Bool) (b : ℕ) (k : ℕ) → 0 < k → below s (a * k) t (b * k) ≡ below s a t b
 below-scale false a false b k K = ltb-scale a b k K
 below-scale false a true b k K = refl
 below-scale true a false b k K = ap (λ (n : ℕ). ltb 0 n) (sym (add-mul a b k)) ∙ ap (λ (z : ℕ). ltb z ((a + b) * k)) (sym (zero-mul k)) ∙ ltb-scale 0 (a + b) k K

@@ -98,6 +98,15 @@ bits-val f b h =
     (subst (λ (n : ℕ). HasValue (ofFields f (leb (top f) b) (a / hid f) (a % hid f)) (leb (top f) b) n (2 ^ low f)) (sym (val-at f a (a / hid f) refl))
     (fields-val f (leb (top f) b) (a / hid f) (a % hid f) (below-ones f a h)))
 
+-- where the sign's bit is clear
+pub plain-val : (b : ℕ) → b < ones binary32 * hid binary32 → HasValue (ofBits binary32 b) false (val binary32 b) (2 ^ 149)
+plain-val b l =
+    let w : b < top binary32 = omega arith in
+    let e : b % top binary32 ≡ b = omega arith in
+    subst (λ (x : ℕ). HasValue (ofBits binary32 b) false (val binary32 x) (2 ^ 149)) e
+    (subst (λ (s : Bool). HasValue (ofBits binary32 b) s (val binary32 (b % top binary32)) (2 ^ 149)) (lt-leb (top binary32) b w)
+    (bits-val binary32 b (subst (λ (x : ℕ). x < ones binary32 * hid binary32) (sym e) l)))
+
 inf-fields : (f : Format) (s : Bool) (a : ℕ) → a ≡ ones f * hid f → ofFields f s (a / hid f) (a % hid f) ≡ inf s
 unfolding ofFields
 inf-fields binary32 s a e = ap (λ (x : ℕ). ofFields binary32 s (x / hid binary32) (x % hid binary32)) e

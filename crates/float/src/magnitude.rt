@@ -38,16 +38,23 @@ pub fn expo64(a: u64) -> u64
     if e == 0 { 0 } else { e - 1 }
 }
 
-// The whole number nearest to a magnitude below 2^23, halves up.
+// The whole part of a magnitude below 2^32.
+pub fn whole(a: u32) -> u32
+    requires { ⌜ a < 0x4f80_0000 ⌝ }
+    ensures { λ r. ⌜ r ≡ val binary32 a / 2 ^ 149 ⌝ }
+{
+    let e = a / 0x80_0000;
+    if e < 127 {
+        return 0;
+    }
+    let m = 0x80_0000 + a % 0x80_0000;
+    (((m as u64) << (e - 127)) >> 23) as u32
+}
+
+// The whole number nearest to a magnitude below 2^23, halves up: half of one more than the whole part of its double.
 pub fn half_up(a: u32) -> u32
     requires { ⌜ a < 0x4b00_0000 ⌝ }
     ensures { λ r. ⌜ r ≡ (val binary32 a * 2 + 2 ^ 149) / 2 ^ 150 ⌝ }
 {
-    let m = sig32(a);
-    let e = expo32(a);
-    if e < 125 {
-        return 0;
-    }
-    let d = 149 - e;
-    (m + (1u32 << (d - 1))) >> d
+    (whole(a + 0x80_0000) + 1) / 2
 }
