@@ -1,30 +1,24 @@
 -- What the calls answer, from what they find. Assumes nothing.
 use mathlib.Core.Path.{_≡_, refl, _∙_, ap}
 use mathlib.Core.List.{List, [], _∷_}
-use Prim.Native.Nat.{ℕ, zero, suc, _<_}
+use Prim.Native.Nat.{ℕ, zero, suc}
 use native.Mathlib.Omega.{arith}
 use lib.Dec.{ltb}
-use lib.ListN.{length, getD, take}
-use lib.Seq.{getD-take}
+use lib.ListN.{length, getD}
 use borrow.Author.Tests.{lt-ltb}
-use Rattle.lists.proofs.Filters.{each-map}
-use Rattle.lists.proofs.Folds.{flatMap-same}
 use Rattle.lcr_core.specs.Outcome.{unless}
 use Rattle.lcr_core.proofs.Checks.{unless-refused}
 use Rattle.binary.specs.Refusal.{bitsRefusal}
 use Rattle.geometry.specs.declared.Finder.{Finder}
-use Rattle.geometry.specs.Order.{zeroFinder}
 use Rattle.finders.specs.declared.Found.{Found}
 use Rattle.finders.specs.Answer.{tableOf as findersTable, findRefusal, findersOf, answerOf}
 use Rattle.ranking.specs.declared.Eight.{Eight}
-use Rattle.ranking.specs.declared.Triple.{Triple}
-use Rattle.ranking.specs.Ranking.{ranked, inUse, eightOf}
-use Rattle.ranking.proofs.Theorems.{Admissible, before, ranked-only}
-use Rattle.ranking.proofs.Tables.{in-use, ranked-eight}
+use Rattle.ranking.specs.Ranking.{inUse, eightOf}
 use Rattle.candidates.specs.declared.Answer.{Answer}
 use Rattle.candidates.specs.declared.Detection.{Detection}
 use Rattle.candidates.specs.declared.Detections.{Detections}
-use Rattle.candidates.specs.Candidates.{detectionOf, detectionsOf, tableOf, answered, first, fromAnswer, detectAnswer, detectFirst}
+use Rattle.candidates.specs.Candidates.{detectionsOf, tableOf, answered, first, fromAnswer, detectAnswer, detectFirst}
+use Rattle.candidates.proofs.Tables.{detections-in}
 
 -- ---- a refusal number, and the detections where it is 0
 pub refused : (n : ℕ) (ds : List Detection) (r : Detections) → (n ≡ 0 → ⊥) → r ≡ tableOf [] → record { refusal = n; detections = r } ≡ answered n ds
@@ -33,24 +27,10 @@ refused n ds r h e = ap (λ (r : Detections). record { refusal = n; detections =
 pub not-refused : (n : ℕ) (ds : List Detection) (r : Detections) → n ≡ 0 → r ≡ tableOf ds → record { refusal = 0; detections = r } ≡ answered n ds
 not-refused n ds r h e = rw (h, e)
 
--- ---- the detections of a list are those of its first eight
-module _ (bits : List ℕ) (w h : ℕ) (fs : List Finder) where
-  same-at : (t : Triple) → Admissible fs t × (before fs t < 3) → detectionOf bits w h (take 8 fs) t ≡ detectionOf bits w h fs t
-  unfolding detectionOf Admissible
-  same-at t a =
-      rw (getD-take 8 fs (t .i) zeroFinder (omega (arith, a .0 .0)), getD-take 8 fs (t .j) zeroFinder (omega (arith, a .0 .0)), getD-take 8 fs (t .k) zeroFinder (omega (arith, a .0 .0)))
-
-  pub detections-eight : detectionsOf bits w h (take 8 fs) ≡ detectionsOf bits w h fs
-  unfolding detectionsOf
-  detections-eight =
-      rw ranked-eight (flatMap-same (detectionOf bits w h (take 8 fs)) (detectionOf bits w h fs) (ranked fs) (each-map (λ (t : Triple). Admissible fs t × (before fs t < 3)) _ same-at (ranked fs) (ranked-only fs)))
-
-  pub detections-in : (t : Eight) → t ≡ eightOf fs → detectionsOf bits w h (inUse t) ≡ detectionsOf bits w h fs
-  detections-in t e = ap (λ (t : Eight). detectionsOf bits w h (inUse t)) e ∙ ap (detectionsOf bits w h) (in-use fs) ∙ detections-eight
-
-  pub from-eight : (t : Eight) → t ≡ eightOf fs → fromAnswer bits w h (inUse t) ≡ fromAnswer bits w h fs
-  unfolding fromAnswer
-  from-eight t e = ap (answered (bitsRefusal (length bits) w h)) (detections-in t e)
+-- ---- the answer of a lent list
+pub from-eight : (bits : List ℕ) (w h : ℕ) (fs : List Finder) (t : Eight) → t ≡ eightOf fs → fromAnswer bits w h (inUse t) ≡ fromAnswer bits w h fs
+unfolding fromAnswer
+from-eight bits w h fs t e = ap (answered (bitsRefusal (length bits) w h)) (detections-in bits w h fs t e)
 
 -- ---- the answer of a search, and the detections of its finders
 with-found : (bits : List ℕ) (w h n : ℕ) (fs : List Finder) (t : Eight) → t ≡ eightOf (unless n [] fs) → answered n (detectionsOf bits w h (inUse t)) ≡ answered n (detectionsOf bits w h fs)

@@ -1,4 +1,5 @@
 pub mod Building
+pub mod Kept
 pub mod Tables
 pub mod Answers
 pub mod Tails

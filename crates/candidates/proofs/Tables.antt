@@ -1,6 +1,6 @@
 -- The table of detections, triple by triple, and the tables of finders that they come from. Assumes nothing.
 use mathlib.Core.Path.{_≡_, sym, _∙_, ap}
-use mathlib.Core.Bool.{Bool, true, false}
+use mathlib.Core.Bool.{true, false}
 use mathlib.Core.List.{List, [], _∷_, _++_, append-nil}
 use Prim.Native.Nat.{ℕ, _+_, _≤_, _<_, min}
 use native.Mathlib.Omega.{arith}
@@ -8,7 +8,8 @@ use lib.ListN.{length, getD, set, take, length-append, length-take}
 use lib.Seq.{getD-take, take-all}
 use Rattle.lists.specs.Lists.{padded, flatMap, tabulate}
 use Rattle.lists.proofs.Padded.{getD-any, getD-padded, getD-table, padded-more}
-use Rattle.lists.proofs.Folds.{flatMap-take, flatMap-few}
+use Rattle.lists.proofs.Filters.{each-map}
+use Rattle.lists.proofs.Folds.{flatMap-take, flatMap-few, flatMap-same}
 use Rattle.geometry.specs.declared.Corners.{Corners}
 use Rattle.geometry.specs.declared.Finder.{Finder}
 use Rattle.geometry.specs.Order.{zeroFinder, orderOf}
@@ -18,13 +19,15 @@ use Rattle.ranking.specs.declared.Eight.{Eight}
 use Rattle.ranking.specs.declared.Ranked.{Ranked}
 use Rattle.ranking.specs.declared.Triple.{Triple}
 use Rattle.ranking.specs.Ranking.{finderAt, ranked, rankedTable, zeroTriple, inUse, eightOf}
-use Rattle.ranking.proofs.Theorems.{Admissible, ranked-admissible, at-most-three}
+use Rattle.ranking.proofs.Theorems.{Admissible, before, ranked-only, ranked-admissible, at-most-three}
+use Rattle.ranking.proofs.Tables.{in-use, ranked-eight}
 use Rattle.candidates.specs.declared.Built.{Built}
 use Rattle.candidates.specs.declared.Detection.{Detection}
 use Rattle.candidates.specs.declared.Detections.{Detections}
 use Rattle.candidates.specs.Detection.{buildOf, zeroDetection}
 use Rattle.candidates.specs.Passing.{Within}
 use Rattle.candidates.specs.Candidates.{cornersOf, kept, detectionOf, detectionsOf, tableOf}
+use Rattle.candidates.proofs.Kept.{kept-few}
 
 -- ---- one more detection
 module _ (found : Detections) (b : Built) (ds : List Detection) (e : found ≡ tableOf ds) where
@@ -37,13 +40,6 @@ module _ (found : Detections) (b : Built) (ds : List Detection) (e : found ≡ t
 
   pub not-pushed : b .found ≡ false → found ≡ tableOf (ds ++ kept b)
   not-pushed t = rw (t, append-nil) e
-
-pub kept-few : (b : Built) → length (kept b) ≤ 1
-kept-few b = go (b .found)
-  where
-    go : (v : Bool) → length (kept record { found = v; detection = b .detection }) ≤ 1
-    go true = omega arith
-    go false = omega arith
 
 -- ---- a triple's finders, read from the table. d is what the code would read past an array's end
 module _ (t : Eight) (long : length (t .at) ≡ 8) (s : Triple) (h : Within (inUse t) s) where
@@ -111,6 +107,21 @@ module _ (fs : List Finder) where
     unfolding detectionsOf
     all-built bits w h p found l g =
         g ∙ ap (λ (l : List Triple). tableOf (flatMap (detectionOf bits w h fs) l)) (take-all p (ranked fs) (omega (arith, ranked-count)))
+
+-- ---- the detections of a list are those of its first eight
+module _ (bits : List ℕ) (w h : ℕ) (fs : List Finder) where
+  same-at : (t : Triple) → Admissible fs t × (before fs t < 3) → detectionOf bits w h (take 8 fs) t ≡ detectionOf bits w h fs t
+  unfolding detectionOf Admissible
+  same-at t a =
+      rw (getD-take 8 fs (t .i) zeroFinder (omega (arith, a .0 .0)), getD-take 8 fs (t .j) zeroFinder (omega (arith, a .0 .0)), getD-take 8 fs (t .k) zeroFinder (omega (arith, a .0 .0)))
+
+  pub detections-eight : detectionsOf bits w h (take 8 fs) ≡ detectionsOf bits w h fs
+  unfolding detectionsOf
+  detections-eight =
+      rw ranked-eight (flatMap-same (detectionOf bits w h (take 8 fs)) (detectionOf bits w h fs) (ranked fs) (each-map (λ (t : Triple). Admissible fs t × (before fs t < 3)) _ same-at (ranked fs) (ranked-only fs)))
+
+  pub detections-in : (t : Eight) → t ≡ eightOf fs → detectionsOf bits w h (inUse t) ≡ detectionsOf bits w h fs
+  detections-in t e = ap (λ (t : Eight). detectionsOf bits w h (inUse t)) e ∙ ap (detectionsOf bits w h) (in-use fs) ∙ detections-eight
 
 -- ---- the first eight of a search
 pub first-eight : (t : Finders) (fs : List Finder) (d : Finder) (r : Eight) → t ≡ findersTable fs

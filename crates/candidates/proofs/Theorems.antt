@@ -1,16 +1,15 @@
 -- What the definitions say of the detections: in a call that isn't refused no step of `build_detection` is; `detect_candidates` is `candidates_from` of the
--- picture's finders; a triple that can't be built is dropped and not replaced; there are three detections at most, and none of fewer than three finders.
--- Assumes nothing.
-use mathlib.Core.Path.{_≡_, refl, ap, _∙_}
+-- picture's finders; there are three detections at most, and none of fewer than three finders. Assumes nothing.
+use mathlib.Core.Path.{_≡_, refl, ap}
 use mathlib.Core.Bool.{Bool, true, false, cond, _||_}
-use mathlib.Core.List.{List, [], _∷_, _++_, map}
-use Prim.Native.Nat.{ℕ, suc, _+_, _≤_, _<_}
+use mathlib.Core.List.{List, [], _∷_}
+use Prim.Native.Nat.{ℕ, _≤_, _<_}
 use native.Mathlib.Omega.{arith}
 use lib.Ieee.{Float, le}
-use lib.ListN.{length, length-append}
+use lib.ListN.{length}
 use borrow.Author.Tests.{le-leb}
 use Rattle.float.specs.Constants.{f0}
-use Rattle.lists.specs.Lists.{Each, flatMap, those, howMany}
+use Rattle.lists.specs.Lists.{Each, flatMap}
 use Rattle.lists.proofs.Folds.{flatMap-few}
 use Rattle.lcr_core.specs.Outcome.{zeroSide, largeSide}
 use Rattle.lcr_core.proofs.Checks.{first-passes}
@@ -30,11 +29,9 @@ use Rattle.finders.specs.Answer.{findRefusal, findersOf}
 use Rattle.ranking.specs.declared.Triple.{Triple}
 use Rattle.ranking.specs.Ranking.{ranked}
 use Rattle.ranking.proofs.Theorems.{Admissible, before, ranked-only, at-most-three}
-use Rattle.candidates.specs.declared.Built.{Built}
-use Rattle.candidates.specs.declared.Detection.{Detection}
 use Rattle.candidates.specs.Detection.{buildOf}
-use Rattle.candidates.specs.Candidates.{cornersOf, kept, detectionOf, detectionsOf, fromAnswer, detectAnswer}
-use Rattle.candidates.proofs.Tables.{kept-few}
+use Rattle.candidates.specs.Candidates.{cornersOf, detectionOf, detectionsOf, fromAnswer, detectAnswer}
+use Rattle.candidates.proofs.Kept.{kept-few}
 
 -- ---- no step is refused
 estimated : (c : Corners) (v : Version) → estimateOf c ≡ Is v → v .0 ≡ nearestVersion (sideIn c)
@@ -88,41 +85,6 @@ found-passed bits w h e =
 pub same-answer : (bits : List ℕ) (w h : ℕ) → findRefusal bits w h ≡ 0 → detectAnswer bits w h ≡ fromAnswer bits w h (findersOf bits w h)
 unfolding detectAnswer fromAnswer
 same-answer bits w h e = rw (e, found-passed bits w h e)
-
--- ---- one that can't be built is dropped and not replaced: there are as many detections as ranked triples that can be built
-built-count : (f : Triple → Built) (ts : List Triple) → length (flatMap (λ (t : Triple). kept (f t)) ts) ≡ howMany (λ (t : Triple). f t .found) ts
-unfolding flatMap howMany
-built-count f [] = refl
-built-count f (t ∷ ts) = length-append (kept (f t)) (flatMap (λ (t : Triple). kept (f t)) ts) ∙ go (f t) (built-count f ts)
-  where
-    go : (b : Built) → length (flatMap (λ (t : Triple). kept (f t)) ts) ≡ howMany (λ (t : Triple). f t .found) ts
-        → length (kept b) + length (flatMap (λ (t : Triple). kept (f t)) ts) ≡ cond (b .found) (suc (howMany (λ (t : Triple). f t .found) ts)) (howMany (λ (t : Triple). f t .found) ts)
-    go b e = by (b .found)
-      where
-        by : (v : Bool) → length (cond v (b .detection ∷ []) []) + length (flatMap (λ (t : Triple). kept (f t)) ts) ≡ cond v (suc (howMany (λ (t : Triple). f t .found) ts)) (howMany (λ (t : Triple). f t .found) ts)
-        by true = omega (arith, e)
-        by false = omega (arith, e)
-
-built-each : (f : Triple → Built) (ts : List Triple) → flatMap (λ (t : Triple). kept (f t)) ts ≡ map (λ (t : Triple). f t .detection) (those (λ (t : Triple). f t .found) ts)
-unfolding flatMap those
-built-each f [] = refl
-built-each f (t ∷ ts) = go (f t .found) (built-each f ts)
-  where
-    go : (v : Bool) → flatMap (λ (t : Triple). kept (f t)) ts ≡ map (λ (t : Triple). f t .detection) (those (λ (t : Triple). f t .found) ts)
-        → cond v (f t .detection ∷ []) [] ++ flatMap (λ (t : Triple). kept (f t)) ts ≡ map (λ (t : Triple). f t .detection) (cond v (t ∷ those (λ (t : Triple). f t .found) ts) (those (λ (t : Triple). f t .found) ts))
-    go true e = ap (λ (l : List Detection). f t .detection ∷ l) e
-    go false e = e
-
-pub not-replaced : (bits : List ℕ) (w h : ℕ) (fs : List Finder)
-    → length (detectionsOf bits w h fs) ≡ howMany (λ (t : Triple). buildOf bits w h (cornersOf fs t) .found) (ranked fs)
-unfolding detectionsOf detectionOf
-not-replaced bits w h fs = built-count (λ (t : Triple). buildOf bits w h (cornersOf fs t)) (ranked fs)
-
--- and each is that of its triple, in rank order
-pub of-its-triple : (bits : List ℕ) (w h : ℕ) (fs : List Finder)
-    → detectionsOf bits w h fs ≡ map (λ (t : Triple). buildOf bits w h (cornersOf fs t) .detection) (those (λ (t : Triple). buildOf bits w h (cornersOf fs t) .found) (ranked fs))
-unfolding detectionsOf detectionOf
-of-its-triple bits w h fs = built-each (λ (t : Triple). buildOf bits w h (cornersOf fs t)) (ranked fs)
 
 -- ---- three at most, and none of fewer than three finders
 pub three-at-most : (bits : List ℕ) (w h : ℕ) (fs : List Finder) → length (detectionsOf bits w h fs) ≤ 3

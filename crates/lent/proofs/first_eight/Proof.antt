@@ -71,6 +71,10 @@ module _ {M : Type 1} (𝓤 : URA M) (H : Heap 𝓤) (A : Atoms 𝓤) (W : Given
   abbrev f : ℕ → Finder
   f i = finderAt (now fs) i
 
+  -- the place of the eighth
+  abbrev last : ℕ
+  last = 7
+
   abbrev v : Val
   v = lent 𝓤 H A W mem run κ q fs
 
@@ -85,10 +89,10 @@ module _ {M : Type 1} (𝓤 : URA M) (H : Heap 𝓤) (A : Atoms 𝓤) (W : Given
 
   -- what `table_of` is passed
   abbrev args : ℕ × (Finder × (Finder × (Finder × (Finder × (Finder × (Finder × (Finder × (Finder × Unit {0}))))))))
-  args = (n, (f 0, (f 1, (f 2, (f 3, (f 4, (f 5, (f 6, (f 7, tt)))))))))
+  args = (n, (f 0, (f 1, (f 2, (f 3, (f 4, (f 5, (f 6, (f last, tt)))))))))
 
   abbrev mach : Vals table.signature tt
-  mach = (vint w64 n ∷ [], (val (f 0) ∷ [], (val (f 1) ∷ [], (val (f 2) ∷ [], (val (f 3) ∷ [], (val (f 4) ∷ [], (val (f 5) ∷ [], (val (f 6) ∷ [], (val (f 7) ∷ [], tt)))))))))
+  mach = (vint w64 n ∷ [], (val (f 0) ∷ [], (val (f 1) ∷ [], (val (f 2) ∷ [], (val (f 3) ∷ [], (val (f 4) ∷ [], (val (f 5) ∷ [], (val (f 6) ∷ [], (val (f last) ∷ [], tt)))))))))
 
   abbrev to : TableOf 𝓤 H A mem run .Ghost
   to = ((tt, tt, tt, args, mach), tt)
@@ -96,9 +100,9 @@ module _ {M : Type 1} (𝓤 : URA M) (H : Heap 𝓤) (A : Atoms 𝓤) (W : Given
   makes : Makes 𝓤 H A T.the-row (Is T.the-row)
   makes = LL.makes T.the-type T′.the-plain 𝓤 H A
 
-  goes : n < 2 ^ 64 → IsFinder (f 0) → IsFinder (f 1) → IsFinder (f 2) → IsFinder (f 3) → IsFinder (f 4) → IsFinder (f 5) → IsFinder (f 6) → IsFinder (f 7) → ent 𝓤 (emp 𝓤) (TableOf 𝓤 H A mem run .pre to)
+  goes : n < 2 ^ 64 → IsFinder (f 0) → IsFinder (f 1) → IsFinder (f 2) → IsFinder (f 3) → IsFinder (f 4) → IsFinder (f 5) → IsFinder (f 6) → IsFinder (f last) → ent 𝓤 (emp 𝓤) (TableOf 𝓤 H A mem run .pre to)
   goes g i0 i1 i2 i3 i4 i5 i6 i7 =
-      qed W [] ∵ nothing ! $ owned ! T.the-row (Is T.the-row) makes (f 7) _ i7 $ fjoin ! $ owned ! T.the-row (Is T.the-row) makes (f 6) _ i6 $ fjoin ! $ owned ! T.the-row (Is T.the-row) makes (f 5) _ i5 $ fjoin ! $
+      qed W [] ∵ nothing ! $ owned ! T.the-row (Is T.the-row) makes (f last) _ i7 $ fjoin ! $ owned ! T.the-row (Is T.the-row) makes (f 6) _ i6 $ fjoin ! $ owned ! T.the-row (Is T.the-row) makes (f 5) _ i5 $ fjoin ! $
       owned ! T.the-row (Is T.the-row) makes (f 4) _ i4 $ fjoin ! $ owned ! T.the-row (Is T.the-row) makes (f 3) _ i3 $ fjoin ! $ owned ! T.the-row (Is T.the-row) makes (f 2) _ i2 $ fjoin ! $
       owned ! T.the-row (Is T.the-row) makes (f 1) _ i1 $ fjoin ! $ owned ! T.the-row (Is T.the-row) makes (f 0) _ i0 $ fjoin ! $ owned ! usize (Is usize) (uint-makes 𝓤 H A W w64) n _ (refl, g) $ fjoin ! $
       nothing ! $ join ! $ frame ! $ done !
@@ -123,7 +127,7 @@ module _ {M : Type 1} (𝓤 : URA M) (H : Heap 𝓤) (A : Atoms 𝓤) (W : Given
         fetch 𝓤 H A W mem run κ q fs fm known 4 (lit< tt) (and-then ! (load ! (from ! (stop !)) (look ! 20 refl)) (and-then ! (lit ! tt) (no-more !))) (λ i4. land ! (from ! (stop !)) (init ! 8 refl (typed 𝓤 H A W (f 4) i4)) $
         fetch 𝓤 H A W mem run κ q fs fm known 5 (lit< tt) (and-then ! (load ! (from ! (stop !)) (look ! 20 refl)) (and-then ! (lit ! tt) (no-more !))) (λ i5. land ! (from ! (stop !)) (init ! 6 refl (typed 𝓤 H A W (f 5) i5)) $
         fetch 𝓤 H A W mem run κ q fs fm known 6 (lit< tt) (and-then ! (load ! (from ! (stop !)) (look ! 20 refl)) (and-then ! (lit ! tt) (no-more !))) (λ i6. land ! (from ! (stop !)) (init ! 4 refl (typed 𝓤 H A W (f 6) i6)) $
-        fetch 𝓤 H A W mem run κ q fs fm known 7 (lit< tt) (and-then ! (load ! (from ! (stop !)) (look ! 20 refl)) (and-then ! (lit ! tt) (no-more !))) (λ i7. land ! (from ! (stop !)) (init ! 2 refl (typed 𝓤 H A W (f 7) i7)) $
+        fetch 𝓤 H A W mem run κ q fs fm known last (lit< tt) (and-then ! (load ! (from ! (stop !)) (look ! 20 refl)) (and-then ! (lit ! tt) (no-more !))) (λ i7. land ! (from ! (stop !)) (init ! 2 refl (typed 𝓤 H A W (f last) i7)) $
         use0 W (raw (TableOf 𝓤 H A mem run .pre to)) (goes (g .0) i0 i1 i2 i3 i4 i5 i6 i7) $
         calls-at ! fm (TableOf 𝓤 H A mem run) known-table to
         (and-then ! (load ! (from ! (stop !)) (look ! 19 refl)) (and-then ! (load ! (from ! (stop !)) (look ! 17 refl)) (and-then ! (load ! (from ! (stop !)) (look ! 15 refl)) (and-then ! (load ! (from ! (stop !)) (look ! 13 refl)) (and-then ! (load ! (from ! (stop !)) (look ! 11 refl))

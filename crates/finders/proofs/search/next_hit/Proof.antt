@@ -22,7 +22,7 @@ turn : (c : tie.After-run-on2 Inv-loop μ-loop) →
     let w = c .before .before .before .loop in
     Turn (pixel (now (a .bits)) (a .start) (a .stride)) (a .len) (w .c) (w .d) (w .e) (w .at) (c .before .run-on .result) (c .run-on2 .result)
 turn c = record {
-  here = c .before .before .loop-test .taken;
+  here = omega (arith, c .before .before .loop-test .taken);
   fit = c .before .before .before .loop .inv .1;
   light = c .before .run-on .ensures .0;
   bound = omega (arith, c .before .run-on .ensures .1, c .before .before .loop-test .taken);
