@@ -5,9 +5,10 @@ use Prim.Native.Nat.{ℕ, _*_, _/_, _%_}
 use mathlib.Core.Bool.{Bool, _&&_, _||_}
 use mathlib.Core.List.{List, [], _∷_}
 use lib.Dec.{ltb}
-use Rattle.lcr_core.specs.Outcome.{firstOf, zeroSide, largeSide}
+use Rattle.lists.specs.Lists.{filled}
+use Rattle.lcr_core.specs.Outcome.{firstOf, unless, zeroSide, largeSide}
 use Rattle.lcr_core.specs.declared.Outcome.the-variants.{ZeroSide, LargeSide, ShortPicture, ShortOutput}
-use Rattle.binary.specs.Binary.{bytesOf}
+use Rattle.binary.specs.Binary.{byteOf, bytesOf}
 use Rattle.blocks.specs.Blocks.{at, blocksOn, blocksIn, meanAt, edgeAt, nearAt, under}
 use Rattle.binarize.specs.Levels.{levelAt}
 
@@ -28,3 +29,7 @@ binarizeRefusal len w h room work =
     ∷ record { refuses = ltb len (w * h); outcome = ShortPicture }
     ∷ record { refuses = ltb room (bytesOf (w * h)) || under (blocksIn w h) work; outcome = ShortOutput }
     ∷ [])
+
+-- what a call that answers n leaves of the bit slice: after 0 a bit for each pixel and the rest as it was, else all as it was
+abbrev pub darkAfter : ℕ → List ℕ → ℕ → ℕ → List ℕ → List ℕ
+darkAfter n g w h old = unless n old (filled (bytesOf (w * h)) (byteOf (isDark g w h)) old)

@@ -5,13 +5,10 @@ use lcr_core::Outcome;
 use rows::put_picture;
 ghost use mathlib.Core.Path.{_≡_};
 ghost use mathlib.Core.List.{_∷_, []};
-ghost use Prim.Native.Nat.{_*_};
 ghost use lib.ListN.{length};
-ghost use Rattle.lists.specs.Lists.{filled};
-ghost use Rattle.lcr_core.specs.Outcome.{numberOf, unless};
-ghost use Rattle.binary.specs.Binary.{byteOf, bytesOf};
-ghost use Rattle.blocks.specs.Blocks.{blocksIn, meanAt, leastAt, greatestAt, edgeAt, nearAt};
-ghost use Rattle.binarize.specs.Binarize.{isDark, binarizeRefusal};
+ghost use Rattle.lcr_core.specs.Outcome.{numberOf};
+ghost use Rattle.blocks.specs.Blocks.{meanAt, leastAt, greatestAt, edgeAt, nearAt, blocksAfter};
+ghost use Rattle.binarize.specs.Binarize.{binarizeRefusal, darkAfter};
 ghost use Rattle.binarize.specs.Splits.{Passed};
 
 mod blank;
@@ -56,12 +53,12 @@ fn binarize_checked(
 )
     requires { ⌜ Passed (length (now gray)) width height (length (now bits)) (length (now means)
         ∷ length (now least) ∷ length (now greatest) ∷ length (now edges) ∷ length (now nears) ∷ []) ⌝ }
-    ensures { λ _. ⌜ now (means .exit) ≡ filled (blocksIn width height) (meanAt (now (gray .entry)) width height) (now (means .entry)) ⌝ }
-    ensures { λ _. ⌜ now (least .exit) ≡ filled (blocksIn width height) (leastAt (now (gray .entry)) width height) (now (least .entry)) ⌝ }
-    ensures { λ _. ⌜ now (greatest .exit) ≡ filled (blocksIn width height) (greatestAt (now (gray .entry)) width height) (now (greatest .entry)) ⌝ }
-    ensures { λ _. ⌜ now (edges .exit) ≡ filled (blocksIn width height) (edgeAt (now (gray .entry)) width height) (now (edges .entry)) ⌝ }
-    ensures { λ _. ⌜ now (nears .exit) ≡ filled (blocksIn width height) (nearAt (now (gray .entry)) width height) (now (nears .entry)) ⌝ }
-    ensures { λ _. ⌜ now (bits .exit) ≡ filled (bytesOf (width * height)) (byteOf (isDark (now (gray .entry)) width height)) (now (bits .entry)) ⌝ }
+    ensures { λ _. ⌜ now (means .exit) ≡ blocksAfter 0 width height (meanAt (now (gray .entry)) width height) (now (means .entry)) ⌝ }
+    ensures { λ _. ⌜ now (least .exit) ≡ blocksAfter 0 width height (leastAt (now (gray .entry)) width height) (now (least .entry)) ⌝ }
+    ensures { λ _. ⌜ now (greatest .exit) ≡ blocksAfter 0 width height (greatestAt (now (gray .entry)) width height) (now (greatest .entry)) ⌝ }
+    ensures { λ _. ⌜ now (edges .exit) ≡ blocksAfter 0 width height (edgeAt (now (gray .entry)) width height) (now (edges .entry)) ⌝ }
+    ensures { λ _. ⌜ now (nears .exit) ≡ blocksAfter 0 width height (nearAt (now (gray .entry)) width height) (now (nears .entry)) ⌝ }
+    ensures { λ _. ⌜ now (bits .exit) ≡ darkAfter 0 (now (gray .entry)) width height (now (bits .entry)) ⌝ }
 {
     block_values(gray, width, height, means, least, greatest, edges, nears);
     put_picture(
@@ -89,18 +86,12 @@ pub fn binarize(
 ) -> Outcome
     ensures refusal { λ r. ⌜ numberOf r ≡ binarizeRefusal (length (now (gray .entry))) width height (length (now (bits .entry))) (length (now (means .entry))
         ∷ length (now (least .entry)) ∷ length (now (greatest .entry)) ∷ length (now (edges .entry)) ∷ length (now (nears .entry)) ∷ []) ⌝ }
-    ensures means { λ r. ⌜ now (means .exit) ≡ unless (numberOf r) (now (means .entry))
-        (filled (blocksIn width height) (meanAt (now (gray .entry)) width height) (now (means .entry))) ⌝ }
-    ensures least { λ r. ⌜ now (least .exit) ≡ unless (numberOf r) (now (least .entry))
-        (filled (blocksIn width height) (leastAt (now (gray .entry)) width height) (now (least .entry))) ⌝ }
-    ensures greatest { λ r. ⌜ now (greatest .exit) ≡ unless (numberOf r) (now (greatest .entry))
-        (filled (blocksIn width height) (greatestAt (now (gray .entry)) width height) (now (greatest .entry))) ⌝ }
-    ensures edges { λ r. ⌜ now (edges .exit) ≡ unless (numberOf r) (now (edges .entry))
-        (filled (blocksIn width height) (edgeAt (now (gray .entry)) width height) (now (edges .entry))) ⌝ }
-    ensures nears { λ r. ⌜ now (nears .exit) ≡ unless (numberOf r) (now (nears .entry))
-        (filled (blocksIn width height) (nearAt (now (gray .entry)) width height) (now (nears .entry))) ⌝ }
-    ensures bits { λ r. ⌜ now (bits .exit) ≡ unless (numberOf r) (now (bits .entry))
-        (filled (bytesOf (width * height)) (byteOf (isDark (now (gray .entry)) width height)) (now (bits .entry))) ⌝ }
+    ensures means { λ r. ⌜ now (means .exit) ≡ blocksAfter (numberOf r) width height (meanAt (now (gray .entry)) width height) (now (means .entry)) ⌝ }
+    ensures least { λ r. ⌜ now (least .exit) ≡ blocksAfter (numberOf r) width height (leastAt (now (gray .entry)) width height) (now (least .entry)) ⌝ }
+    ensures greatest { λ r. ⌜ now (greatest .exit) ≡ blocksAfter (numberOf r) width height (greatestAt (now (gray .entry)) width height) (now (greatest .entry)) ⌝ }
+    ensures edges { λ r. ⌜ now (edges .exit) ≡ blocksAfter (numberOf r) width height (edgeAt (now (gray .entry)) width height) (now (edges .entry)) ⌝ }
+    ensures nears { λ r. ⌜ now (nears .exit) ≡ blocksAfter (numberOf r) width height (nearAt (now (gray .entry)) width height) (now (nears .entry)) ⌝ }
+    ensures bits { λ r. ⌜ now (bits .exit) ≡ darkAfter (numberOf r) (now (gray .entry)) width height (now (bits .entry)) ⌝ }
 {
     let checked = check_binarize(
         gray.len(),

@@ -5,8 +5,8 @@ use mathlib.Core.Bool.{Bool, false, cond, _||_}
 use mathlib.Core.List.{List, [], _∷_, map}
 use lib.ListN.{length, getD}
 use lib.Dec.{ltb}
-use Rattle.lists.specs.Lists.{range, flatMap, folded}
-use Rattle.lcr_core.specs.Outcome.{firstOf, zeroSide, largeSide}
+use Rattle.lists.specs.Lists.{range, flatMap, folded, filled}
+use Rattle.lcr_core.specs.Outcome.{firstOf, unless, zeroSide, largeSide}
 use Rattle.lcr_core.specs.declared.Outcome.the-variants.{ZeroSide, LargeSide, ShortPicture, ShortOutput}
 
 -- ---- values of a list
@@ -106,3 +106,7 @@ blocksRefusal len w h work =
     ∷ record { refuses = ltb len (w * h); outcome = ShortPicture }
     ∷ record { refuses = under (blocksIn w h) work; outcome = ShortOutput }
     ∷ [])
+
+-- what a call that answers n leaves of a work slice: after 0 the value v of each block of a picture of w × h pixels and the rest as it was, else all as it was
+abbrev pub blocksAfter : ℕ → ℕ → ℕ → (ℕ → ℕ) → List ℕ → List ℕ
+blocksAfter n w h v old = unless n old (filled (blocksIn w h) v old)

@@ -6,9 +6,8 @@ use stats::all_values;
 ghost use mathlib.Core.Path.{_≡_};
 ghost use mathlib.Core.List.{_∷_, []};
 ghost use lib.ListN.{length};
-ghost use Rattle.lists.specs.Lists.{filled};
-ghost use Rattle.lcr_core.specs.Outcome.{numberOf, unless};
-ghost use Rattle.blocks.specs.Blocks.{blocksIn, meanAt, leastAt, greatestAt, edgeAt, nearAt, under, blocksRefusal};
+ghost use Rattle.lcr_core.specs.Outcome.{numberOf};
+ghost use Rattle.blocks.specs.Blocks.{meanAt, leastAt, greatestAt, edgeAt, nearAt, under, blocksRefusal, blocksAfter};
 ghost use Rattle.blocks.specs.Steps.{Passed};
 
 mod marks;
@@ -83,11 +82,11 @@ fn values_checked(
     nears: &mut [u8],
 )
     requires { ⌜ Passed (length (now gray)) w h (length (now means)) (length (now least)) (length (now greatest)) (length (now edges)) (length (now nears)) ⌝ }
-    ensures { λ _. ⌜ now (means .exit) ≡ filled (blocksIn w h) (meanAt (now (gray .entry)) w h) (now (means .entry)) ⌝ }
-    ensures { λ _. ⌜ now (least .exit) ≡ filled (blocksIn w h) (leastAt (now (gray .entry)) w h) (now (least .entry)) ⌝ }
-    ensures { λ _. ⌜ now (greatest .exit) ≡ filled (blocksIn w h) (greatestAt (now (gray .entry)) w h) (now (greatest .entry)) ⌝ }
-    ensures { λ _. ⌜ now (edges .exit) ≡ filled (blocksIn w h) (edgeAt (now (gray .entry)) w h) (now (edges .entry)) ⌝ }
-    ensures { λ _. ⌜ now (nears .exit) ≡ filled (blocksIn w h) (nearAt (now (gray .entry)) w h) (now (nears .entry)) ⌝ }
+    ensures { λ _. ⌜ now (means .exit) ≡ blocksAfter 0 w h (meanAt (now (gray .entry)) w h) (now (means .entry)) ⌝ }
+    ensures { λ _. ⌜ now (least .exit) ≡ blocksAfter 0 w h (leastAt (now (gray .entry)) w h) (now (least .entry)) ⌝ }
+    ensures { λ _. ⌜ now (greatest .exit) ≡ blocksAfter 0 w h (greatestAt (now (gray .entry)) w h) (now (greatest .entry)) ⌝ }
+    ensures { λ _. ⌜ now (edges .exit) ≡ blocksAfter 0 w h (edgeAt (now (gray .entry)) w h) (now (edges .entry)) ⌝ }
+    ensures { λ _. ⌜ now (nears .exit) ≡ blocksAfter 0 w h (nearAt (now (gray .entry)) w h) (now (nears .entry)) ⌝ }
 {
     let bw = (w + 7) / 8;
     let bh = (h + 7) / 8;
@@ -109,16 +108,11 @@ pub fn block_values(
 ) -> Outcome
     ensures refusal { λ r. ⌜ numberOf r ≡ blocksRefusal (length (now (gray .entry))) width height (length (now (means .entry))
         ∷ length (now (least .entry)) ∷ length (now (greatest .entry)) ∷ length (now (edges .entry)) ∷ length (now (nears .entry)) ∷ []) ⌝ }
-    ensures means { λ r. ⌜ now (means .exit) ≡ unless (numberOf r) (now (means .entry))
-        (filled (blocksIn width height) (meanAt (now (gray .entry)) width height) (now (means .entry))) ⌝ }
-    ensures least { λ r. ⌜ now (least .exit) ≡ unless (numberOf r) (now (least .entry))
-        (filled (blocksIn width height) (leastAt (now (gray .entry)) width height) (now (least .entry))) ⌝ }
-    ensures greatest { λ r. ⌜ now (greatest .exit) ≡ unless (numberOf r) (now (greatest .entry))
-        (filled (blocksIn width height) (greatestAt (now (gray .entry)) width height) (now (greatest .entry))) ⌝ }
-    ensures edges { λ r. ⌜ now (edges .exit) ≡ unless (numberOf r) (now (edges .entry))
-        (filled (blocksIn width height) (edgeAt (now (gray .entry)) width height) (now (edges .entry))) ⌝ }
-    ensures nears { λ r. ⌜ now (nears .exit) ≡ unless (numberOf r) (now (nears .entry))
-        (filled (blocksIn width height) (nearAt (now (gray .entry)) width height) (now (nears .entry))) ⌝ }
+    ensures means { λ r. ⌜ now (means .exit) ≡ blocksAfter (numberOf r) width height (meanAt (now (gray .entry)) width height) (now (means .entry)) ⌝ }
+    ensures least { λ r. ⌜ now (least .exit) ≡ blocksAfter (numberOf r) width height (leastAt (now (gray .entry)) width height) (now (least .entry)) ⌝ }
+    ensures greatest { λ r. ⌜ now (greatest .exit) ≡ blocksAfter (numberOf r) width height (greatestAt (now (gray .entry)) width height) (now (greatest .entry)) ⌝ }
+    ensures edges { λ r. ⌜ now (edges .exit) ≡ blocksAfter (numberOf r) width height (edgeAt (now (gray .entry)) width height) (now (edges .entry)) ⌝ }
+    ensures nears { λ r. ⌜ now (nears .exit) ≡ blocksAfter (numberOf r) width height (nearAt (now (gray .entry)) width height) (now (nears .entry)) ⌝ }
 {
     let checked = check_blocks(
         gray.len(),

@@ -4,15 +4,12 @@ use lcr_core::Outcome;
 use lcr_core::number;
 ghost use mathlib.Core.Path.{_≡_};
 ghost use mathlib.Core.List.{_∷_, []};
-ghost use Prim.Native.Nat.{_*_};
 ghost use lib.ListN.{length};
-ghost use Rattle.lists.specs.Lists.{filled};
 ghost use Rattle.lcr_core.specs.Outcome.{numberOf, firstOf, unless};
-ghost use Rattle.binary.specs.Binary.{byteOf, bytesOf};
 ghost use Rattle.image.specs.Gray.{grayRefusal, grayWritten};
 ghost use Rattle.image.specs.Denoise.{denoisedRefusal, denoisedWritten};
-ghost use Rattle.blocks.specs.Blocks.{blocksIn, meanAt, leastAt, greatestAt, edgeAt, nearAt};
-ghost use Rattle.binarize.specs.Binarize.{isDark, binarizeRefusal};
+ghost use Rattle.blocks.specs.Blocks.{meanAt, leastAt, greatestAt, edgeAt, nearAt, blocksAfter};
+ghost use Rattle.binarize.specs.Binarize.{binarizeRefusal, darkAfter};
 ghost use Rattle.finders.specs.Answer.{heldIn, answerOf};
 ghost use Rattle.stored.specs.Stored.{storedBytes, over};
 ghost use Rattle.candidates.specs.Candidates.{detectAnswer};
@@ -50,18 +47,12 @@ pub extern "C" fn plate_binarize(
 ) -> u8
     ensures number { λ r. ⌜ r ≡ binarizeRefusal (length (now (gray .entry))) width height (length (now (bits .entry))) (length (now (means .entry))
         ∷ length (now (least .entry)) ∷ length (now (greatest .entry)) ∷ length (now (edges .entry)) ∷ length (now (nears .entry)) ∷ []) ⌝ }
-    ensures means { λ r. ⌜ now (means .exit) ≡ unless r (now (means .entry))
-        (filled (blocksIn width height) (meanAt (now (gray .entry)) width height) (now (means .entry))) ⌝ }
-    ensures least { λ r. ⌜ now (least .exit) ≡ unless r (now (least .entry))
-        (filled (blocksIn width height) (leastAt (now (gray .entry)) width height) (now (least .entry))) ⌝ }
-    ensures greatest { λ r. ⌜ now (greatest .exit) ≡ unless r (now (greatest .entry))
-        (filled (blocksIn width height) (greatestAt (now (gray .entry)) width height) (now (greatest .entry))) ⌝ }
-    ensures edges { λ r. ⌜ now (edges .exit) ≡ unless r (now (edges .entry))
-        (filled (blocksIn width height) (edgeAt (now (gray .entry)) width height) (now (edges .entry))) ⌝ }
-    ensures nears { λ r. ⌜ now (nears .exit) ≡ unless r (now (nears .entry))
-        (filled (blocksIn width height) (nearAt (now (gray .entry)) width height) (now (nears .entry))) ⌝ }
-    ensures bits { λ r. ⌜ now (bits .exit) ≡ unless r (now (bits .entry))
-        (filled (bytesOf (width * height)) (byteOf (isDark (now (gray .entry)) width height)) (now (bits .entry))) ⌝ }
+    ensures means { λ r. ⌜ now (means .exit) ≡ blocksAfter r width height (meanAt (now (gray .entry)) width height) (now (means .entry)) ⌝ }
+    ensures least { λ r. ⌜ now (least .exit) ≡ blocksAfter r width height (leastAt (now (gray .entry)) width height) (now (least .entry)) ⌝ }
+    ensures greatest { λ r. ⌜ now (greatest .exit) ≡ blocksAfter r width height (greatestAt (now (gray .entry)) width height) (now (greatest .entry)) ⌝ }
+    ensures edges { λ r. ⌜ now (edges .exit) ≡ blocksAfter r width height (edgeAt (now (gray .entry)) width height) (now (edges .entry)) ⌝ }
+    ensures nears { λ r. ⌜ now (nears .exit) ≡ blocksAfter r width height (nearAt (now (gray .entry)) width height) (now (nears .entry)) ⌝ }
+    ensures bits { λ r. ⌜ now (bits .exit) ≡ darkAfter r (now (gray .entry)) width height (now (bits .entry)) ⌝ }
 {
     number(binarize::binarize(
         gray,
