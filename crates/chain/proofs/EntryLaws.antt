@@ -7,6 +7,7 @@ use native.Mathlib.Omega.{arith}
 use lib.Dec.{ltb}
 use lib.ListN.{length}
 use borrow.Author.Tests.{lt-ltb, le-ltb, ltb-false}
+use Rattle.lists.specs.Lists.{written}
 use Rattle.lcr_core.specs.Outcome.{unless}
 use Rattle.lcr_core.proofs.Checks.{unless-done, first-passes}
 use Rattle.little_endian.specs.Bytes.{put}
@@ -15,7 +16,7 @@ use Rattle.candidates.specs.declared.Answer.{Answer}
 use Rattle.candidates.specs.Candidates.{answered}
 use Rattle.firmware.specs.Firmware.{firmwareBytes, firmwareSize}
 use Rattle.stages.specs.Stages.{stagesRefusal}
-use Rattle.stages.specs.Pictures.{written, leftAfter}
+use Rattle.stages.specs.Pictures.{leftAfter}
 use Rattle.stages.proofs.Closed.{at-most-five, left-old}
 use Rattle.chain.specs.Chain.{chainOf, chainAnswer, entryRefusal, detectionsAfter}
 use Rattle.chain.proofs.Theorems.{detection-bytes}
@@ -89,7 +90,7 @@ module _ (len w h s f gray bits denoised : ℕ) (work : List ℕ) (room n : ℕ)
 
     -- the detections, where the chain refuses nothing
     pub entry-found : a .refusal ≡ 0 → (x old : List ℕ) → room ≡ length old → x ≡ put (firmwareBytes (a .detections)) 0 old → x ≡ detectionsAfter (a .refusal) p w h s f old
-    unfolding chainAnswer written
+    unfolding chainAnswer
     entry-found t x old r q =
         let bytes = firmwareBytes (chainOf p w h s f .detections) in
         let d : a ≡ chainOf p w h s f = g ∙ sym (unless-done m (answered m []) (chainOf p w h s f) (both-pass m room (sym e ∙ z))) in

@@ -5,13 +5,14 @@ use Prim.Native.Nat.{ℕ}
 use mathlib.Core.List.{List, [], _∷_}
 use lib.Dec.{ltb}
 use lib.ListN.{length}
+use Rattle.lists.specs.Lists.{written}
 use Rattle.lcr_core.specs.Outcome.{firstOf, unless}
 use Rattle.lcr_core.specs.declared.Outcome.the-variants.{ShortOutput}
 use Rattle.candidates.specs.declared.Answer.{Answer}
 use Rattle.candidates.specs.Candidates.{answered, detectAnswer}
 use Rattle.firmware.specs.Firmware.{firmwareBytes, firmwareSize}
 use Rattle.stages.specs.Stages.{refusalOf}
-use Rattle.stages.specs.Pictures.{denoisedPicture, written}
+use Rattle.stages.specs.Pictures.{denoisedPicture}
 
 -- what is answered for a picture p of w × h pixels in rows of s bytes with format byte f that the stages don't refuse: 0 and the detections in its
 -- denoised bits, or 6 (proofs/Theorems.antt: no other number)

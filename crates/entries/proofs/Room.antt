@@ -7,6 +7,7 @@ use native.Mathlib.Omega.{arith}
 use lib.Dec.{ltb}
 use lib.ListN.{length}
 use borrow.Author.Tests.{lt-ltb, le-ltb, ltb-false}
+use Rattle.lists.specs.Lists.{written}
 use Rattle.lcr_core.specs.Outcome.{firstOf, unless, zeroSide, largeSide}
 use Rattle.lcr_core.proofs.Checks.{first-passes, unless-refused, unless-done}
 use Rattle.little_endian.specs.Bytes.{put}
@@ -14,7 +15,6 @@ use Rattle.little_endian.proofs.Round.{put-front}
 use Rattle.binary.specs.Refusal.{shortBits, bitsRefusal}
 use Rattle.finders.specs.Search.{found}
 use Rattle.finders.specs.Answer.{isOver, findRefusal}
-use Rattle.stored.specs.Stored.{over}
 use Rattle.candidates.specs.declared.Answer.{Answer}
 use Rattle.candidates.specs.Candidates.{detectAnswer}
 use Rattle.firmware.specs.Firmware.{firmwareBytes, firmwareSize}
@@ -90,8 +90,8 @@ module _ (bits : List ℕ) (w h room n : ℕ) (e : n ≡ firstOf (roomChecks (le
 
     -- the detections, where nothing is refused
     pub found-written : a .refusal ≡ 0 → (x old : List ℕ) → room ≡ length old → x ≡ put (firmwareBytes (a .detections)) 0 old
-        → x ≡ unless (a .refusal) old (over (firmwareBytes (detectAnswer bits w h .detections)) old)
+        → x ≡ unless (a .refusal) old (written (firmwareBytes (detectAnswer bits w h .detections)) old)
     found-written t x old r q =
         let bytes = firmwareBytes (detectAnswer bits w h .detections) in
         let l : length bytes ≤ length old = omega (arith, room-left, answer-bytes bits w h) in
-        q ∙ ap (λ (a : Answer). put (firmwareBytes (a .detections)) 0 old) g ∙ put-front bytes old l ∙ unless-done (a .refusal) old (over bytes old) t
+        q ∙ ap (λ (a : Answer). put (firmwareBytes (a .detections)) 0 old) g ∙ put-front bytes old l ∙ unless-done (a .refusal) old (written bytes old) t

@@ -5,13 +5,14 @@ use lcr_core::number;
 ghost use mathlib.Core.Path.{_≡_};
 ghost use mathlib.Core.List.{_∷_, []};
 ghost use lib.ListN.{length};
+ghost use Rattle.lists.specs.Lists.{written};
 ghost use Rattle.lcr_core.specs.Outcome.{numberOf, firstOf, unless};
 ghost use Rattle.image.specs.Gray.{grayRefusal, grayWritten};
 ghost use Rattle.image.specs.Denoise.{denoisedRefusal, denoisedWritten};
 ghost use Rattle.blocks.specs.Blocks.{meanAt, leastAt, greatestAt, edgeAt, nearAt, blocksAfter};
 ghost use Rattle.binarize.specs.Binarize.{binarizeRefusal, darkAfter};
 ghost use Rattle.finders.specs.Answer.{heldIn, answerOf};
-ghost use Rattle.stored.specs.Stored.{storedBytes, over};
+ghost use Rattle.stored.specs.Stored.{storedBytes};
 ghost use Rattle.candidates.specs.Candidates.{detectAnswer};
 ghost use Rattle.firmware.specs.Firmware.{firmwareBytes};
 ghost use Rattle.entries.specs.Entries.{listRefusal, roomChecks, candidatesRefusal};
@@ -81,7 +82,7 @@ pub extern "C" fn plate_denoised(bits: &[u8], width: u32, height: u32, denoised:
 pub extern "C" fn plate_finders(bits: &[u8], width: u32, height: u32, list: &mut [u8]) -> u8
     ensures number { λ r. ⌜ r ≡ listRefusal (answerOf (now (bits .entry)) width height) width height (length (now (list .entry))) ⌝ }
     ensures list { λ r. ⌜ now (list .exit) ≡ unless r (now (list .entry))
-        (over (storedBytes width height (heldIn (answerOf (now (bits .entry)) width height .finders))) (now (list .entry))) ⌝ }
+        (written (storedBytes width height (heldIn (answerOf (now (bits .entry)) width height .finders))) (now (list .entry))) ⌝ }
 {
     let found = finders::find_finders(bits, width, height);
     let n = found.refusal;
@@ -117,7 +118,7 @@ pub extern "C" fn plate_candidates(
 ) -> u8
     ensures number { λ r. ⌜ r ≡ candidatesRefusal (now (bits .entry)) width height (length (now (detections .entry))) ⌝ }
     ensures detections { λ r. ⌜ now (detections .exit) ≡ unless r (now (detections .entry))
-        (over (firmwareBytes (detectAnswer (now (bits .entry)) width height .detections)) (now (detections .entry))) ⌝ }
+        (written (firmwareBytes (detectAnswer (now (bits .entry)) width height .detections)) (now (detections .entry))) ⌝ }
 {
     let n = number(check_candidates(bits.len(), width, height, detections.len()));
     if n != 0 {

@@ -14,6 +14,10 @@ tabulate (suc n) f = tabulate n f ++ (f n ∷ [])
 abbrev pub filled : {A : Type 0} → ℕ → (ℕ → A) → List A → List A
 filled n f d = tabulate n f ++ drop n d
 
+-- a list over the first elements of a slice, and the rest as it was
+abbrev pub written : {A : Type 0} → List A → List A → List A
+written new old = new ++ drop (length new) old
+
 -- a list with z after it, up to n places: a table that holds the list
 abbrev pub padded : {A : Type 0} → ℕ → A → List A → List A
 padded n z xs = xs ++ replicate (n - length xs) z

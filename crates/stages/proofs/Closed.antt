@@ -16,12 +16,12 @@ use Rattle.image.specs.Denoise.{denoisedAt}
 use Rattle.blocks.specs.Blocks.{blocksIn, meanAt, leastAt, greatestAt, edgeAt, nearAt}
 use Rattle.binarize.specs.Binarize.{isDark}
 use Rattle.stages.specs.Stages.{shortRoom, stagesRefusal}
-use Rattle.stages.specs.Pictures.{grayPicture, bitPicture, denoisedPicture, blockMeans, blockLeast, blockGreatest, edgeMarks, nearMarks, written, leftAfter}
+use Rattle.stages.specs.Pictures.{grayPicture, bitPicture, denoisedPicture, blockMeans, blockLeast, blockGreatest, edgeMarks, nearMarks, leftAfter}
 use Rattle.stages.proofs.Tails.{mean-tail, least-tail, greatest-tail, edge-tail, near-tail, dark-tail, byte-tail}
 
 -- ---- a list written over the first elements of a slice
 left-filled : (n : ℕ) (f : ℕ → ℕ) (old : List ℕ) → filled n f old ≡ leftAfter 0 (tabulate n f) old
-unfolding leftAfter written
+unfolding leftAfter
 left-filled n f old = ap (λ (k : ℕ). tabulate n f ++ drop k old) (sym (length-tabulate n f))
 
 first-of : (n : ℕ) (f : ℕ → ℕ) (old new : List ℕ) → new ≡ filled n f old → take n new ≡ tabulate n f

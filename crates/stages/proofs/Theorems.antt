@@ -4,13 +4,14 @@ use mathlib.Core.List.{List}
 use Prim.Native.Nat.{ℕ, _*_}
 use lib.ListN.{length, take, drop}
 use lib.Seq.{take-at}
+use Rattle.lists.specs.Lists.{written}
 use Rattle.lists.proofs.Tabulate.{length-tabulate}
 use Rattle.binary.specs.Binary.{byteOf, bytesOf}
 use Rattle.image.specs.Gray.{grayAt}
 use Rattle.image.specs.Denoise.{denoisedAt}
 use Rattle.blocks.specs.Blocks.{blocksIn, meanAt, leastAt, greatestAt, edgeAt, nearAt}
 use Rattle.binarize.specs.Binarize.{isDark}
-use Rattle.stages.specs.Pictures.{grayPicture, bitPicture, denoisedPicture, blockMeans, blockLeast, blockGreatest, edgeMarks, nearMarks, written, leftAfter}
+use Rattle.stages.specs.Pictures.{grayPicture, bitPicture, denoisedPicture, blockMeans, blockLeast, blockGreatest, edgeMarks, nearMarks, leftAfter}
 
 module _ (p : List ℕ) (w h s f : ℕ) where
   pub length-gray : length (grayPicture p w h s f) ≡ w * h
@@ -48,7 +49,7 @@ module _ (p : List ℕ) (w h s f : ℕ) where
 -- where nothing is refused; what follows them is not read (candidates/proofs/Tails.antt)
 pub denoised-first : (n : ℕ) (p : List ℕ) (w h s f : ℕ) → n ≡ 0 → (old done : List ℕ) → done ≡ leftAfter n (denoisedPicture p w h s f) old
     → take (bytesOf (w * h)) done ≡ denoisedPicture p w h s f
-unfolding leftAfter written
+unfolding leftAfter
 denoised-first n p w h s f z old done e =
     let d = denoisedPicture p w h s f in
     let k : leftAfter n d old ≡ written d old = ap (λ (n : ℕ). leftAfter n d old) z in

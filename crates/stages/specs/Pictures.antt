@@ -2,10 +2,9 @@
 -- it holds. Document 01, "From picture to bits". Definitions only.
 use Prim.Native.Nat.{ℕ, _*_}
 use mathlib.Core.Bool.{cond, _||_}
-use mathlib.Core.List.{List, _++_}
-use lib.ListN.{length, drop}
+use mathlib.Core.List.{List}
 use lib.Dec.{eqb}
-use Rattle.lists.specs.Lists.{tabulate}
+use Rattle.lists.specs.Lists.{tabulate, written}
 use Rattle.lcr_core.specs.Outcome.{numberOf}
 use Rattle.lcr_core.specs.declared.Outcome.the-variants.{Done, FullTable}
 use Rattle.binary.specs.Binary.{byteOf, bytesOf}
@@ -44,10 +43,6 @@ module _ (p : List ℕ) (w h s f : ℕ) where
   nearMarks = tabulate (blocksIn w h) (nearAt grayPicture w h)
 
 -- ---- what a call that answers n leaves of the slices lent to the stages
-
--- a list over the first elements of a slice, and the rest as it was
-unfoldable pub written : List ℕ → List ℕ → List ℕ
-written new old = new ++ drop (length new) old
 
 -- after 0, and after 6, which is given behind the stages, a list is written; else all is as it was
 unfoldable pub leftAfter : ℕ → List ℕ → List ℕ → List ℕ

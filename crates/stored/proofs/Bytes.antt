@@ -5,13 +5,13 @@ use Prim.Native.Nat.{ℕ, suc, _+_, _*_, _≤_}
 use native.Mathlib.Omega.{arith}
 use lib.ListN.{length, set, length-append}
 use lib.Ieee.{binary32, toBits}
-use Rattle.lists.specs.Lists.{flatMap}
+use Rattle.lists.specs.Lists.{flatMap, written}
 use Rattle.little_endian.specs.Bytes.{bytesLE, put}
 use Rattle.little_endian.proofs.Halves.{put-append}
 use Rattle.little_endian.proofs.Pieces.{put-then, length-flat}
 use Rattle.little_endian.proofs.Round.{length-bytes, put-front}
 use Rattle.geometry.specs.declared.Finder.{Finder}
-use Rattle.stored.specs.Stored.{headBytes, placeBytes, sizeBytes, sizeOf, storedBytes, over}
+use Rattle.stored.specs.Stored.{headBytes, placeBytes, sizeBytes, sizeOf, storedBytes}
 
 -- ---- lengths
 length-pair : (a b : ℕ) → length (bytesLE 4 a ++ bytesLE 4 b) ≡ 8
@@ -50,7 +50,7 @@ length-stored w h fs =
 
 -- ---- the whole list
 pub stored-is : (w h : ℕ) (fs : List Finder) (n : ℕ) (l : List ℕ) → n ≡ length fs → sizeOf n ≤ length l
-    → put (flatMap sizeBytes fs) (6 + 8 * n) (put (flatMap placeBytes fs) 6 (put (headBytes w h n) 0 l)) ≡ over (storedBytes w h fs) l
+    → put (flatMap sizeBytes fs) (6 + 8 * n) (put (flatMap placeBytes fs) 6 (put (headBytes w h n) 0 l)) ≡ written (storedBytes w h fs) l
 unfolding storedBytes
 stored-is w h fs n l e fit =
     let P = flatMap placeBytes fs in

@@ -11,7 +11,7 @@ use lib.Seq.{split-at, length-take-le, getD-append-add, ext-getD, take-at}
 use lib.Ieee.{binary32, toBits, fits}
 use lib.Ieee.Bits.{ofBits-toBits, toBits-lt}
 use borrow.Author.Tests.{le-ltb, eq-eqb, ne-eqb}
-use Rattle.lists.specs.Lists.{Each, tabulate, flatMap}
+use Rattle.lists.specs.Lists.{Each, tabulate, flatMap, written}
 use Rattle.lists.proofs.Filters.{each-getD}
 use Rattle.lists.proofs.Folds.{flatMap-append}
 use Rattle.lists.proofs.Tabulate.{length-tabulate, getD-tabulate}
@@ -24,7 +24,7 @@ use Rattle.geometry.specs.declared.Finder.{Finder}
 use Rattle.geometry.specs.Order.{zeroFinder}
 use Rattle.finders.specs.Search.{maxFinders}
 use Rattle.finders.specs.Answer.{tableOf}
-use Rattle.stored.specs.Stored.{headBytes, placeBytes, sizeBytes, sizeOf, storedBytes, over, widthIn, heightIn, countIn, finderAt, badHead, manyFinders, badLength, readRefusal, readOf}
+use Rattle.stored.specs.Stored.{headBytes, placeBytes, sizeBytes, sizeOf, storedBytes, widthIn, heightIn, countIn, finderAt, badHead, manyFinders, badLength, readRefusal, readOf}
 use Rattle.stored.proofs.Bytes.{length-place, length-size, length-head, length-stored}
 
 -- a finder as the code has it: three f32 and a u32
@@ -171,5 +171,5 @@ module _ (w h : ℕ) (fs : List Finder) where
     read-again s = rw (done, width-is (omega (arith, p .w-most)), height-is (omega (arith, p .h-most)), count-is, finders-are s)
 
     -- of what the writer leaves, the part that it wrote
-    written-is-read : (old : List ℕ) → Each Storable fs → readOf (take (sizeOf n) (over (storedBytes w h fs) old)) ≡ record { refusal = 0; width = w; height = h; finders = tableOf fs }
+    written-is-read : (old : List ℕ) → Each Storable fs → readOf (take (sizeOf n) (written (storedBytes w h fs) old)) ≡ record { refusal = 0; width = w; height = h; finders = tableOf fs }
     written-is-read old s = ap readOf (take-at (storedBytes w h fs) (drop (length (storedBytes w h fs)) old) (sizeOf n) (length-stored w h fs)) ∙ read-again s

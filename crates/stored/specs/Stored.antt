@@ -107,7 +107,3 @@ writeChecks count width height len =
 -- the refusal of a table's finders
 unfoldable pub writeRefusal : Finders → ℕ → ℕ → ℕ → ℕ
 writeRefusal t width height len = firstOf (writeChecks (t .count) width height len)
-
--- bytes over the beginning of a list, its tail untouched
-abbrev pub over : List ℕ → List ℕ → List ℕ
-over bytes old = bytes ++ drop (length bytes) old

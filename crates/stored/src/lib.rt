@@ -1,9 +1,10 @@
 // The stored list of a picture's finders: its reader and its writer.
 ghost use mathlib.Core.Path.{_≡_};
 ghost use lib.ListN.{length};
+ghost use Rattle.lists.specs.Lists.{written};
 ghost use Rattle.lcr_core.specs.Outcome.{unless};
 ghost use Rattle.finders.specs.Answer.{heldIn};
-ghost use Rattle.stored.specs.Stored.{sizeOf, storedBytes, over, writeRefusal, readOf};
+ghost use Rattle.stored.specs.Stored.{sizeOf, storedBytes, writeRefusal, readOf};
 use finders::Finders;
 use finders::no_finders;
 
@@ -52,7 +53,7 @@ pub fn read_list(bytes: &[u8]) -> Stored
 pub fn write_list(finders: Finders, width: u32, height: u32, out: &mut [u8]) -> Written
     ensures refusal { λ r. ⌜ r .refusal ≡ writeRefusal finders width height (length (now (out .entry))) ⌝ }
     ensures len { λ r. ⌜ r .len ≡ unless (r .refusal) 0 (sizeOf (finders .count)) ⌝ }
-    ensures bytes { λ r. ⌜ now (out .exit) ≡ unless (r .refusal) (now (out .entry)) (over (storedBytes width height (heldIn finders)) (now (out .entry))) ⌝ }
+    ensures bytes { λ r. ⌜ now (out .exit) ≡ unless (r .refusal) (now (out .entry)) (written (storedBytes width height (heldIn finders)) (now (out .entry))) ⌝ }
 {
     let count = finders.count;
     let n = lcr_core::number(check::check_write(count, width, height, out.len()));

@@ -3,11 +3,11 @@ ghost use mathlib.Core.Path.{_≡_};
 ghost use mathlib.Core.List.{_++_};
 ghost use Prim.Native.Nat.{_+_, _*_, _≤_, _<_, _^_};
 ghost use lib.ListN.{length};
-ghost use Rattle.lists.specs.Lists.{flatMap};
+ghost use Rattle.lists.specs.Lists.{flatMap, written};
 ghost use Rattle.little_endian.specs.Bytes.{bytesLE, put};
 ghost use Rattle.finders.specs.Search.{maxFinders};
 ghost use Rattle.finders.specs.Answer.{heldIn};
-ghost use Rattle.stored.specs.Stored.{headBytes, placeBytes, sizeBytes, sizeOf, storedBytes, over};
+ghost use Rattle.stored.specs.Stored.{headBytes, placeBytes, sizeBytes, sizeOf, storedBytes};
 use finders::Finders;
 use little_endian::put8;
 use little_endian::put16;
@@ -68,7 +68,7 @@ fn put_sizes(out: &mut [u8], t: Finders)
 
 pub fn put_list(out: &mut [u8], t: Finders, width: u16, height: u16)
     requires { ⌜ (t .count ≤ maxFinders) × (sizeOf (t .count) ≤ length (now out)) ⌝ }
-    ensures { λ _. ⌜ now (out .exit) ≡ over (storedBytes width height (heldIn t)) (now (out .entry)) ⌝ }
+    ensures { λ _. ⌜ now (out .exit) ≡ written (storedBytes width height (heldIn t)) (now (out .entry)) ⌝ }
 {
     let count = t.count;
     put_head(out, width, height, count as u8);
