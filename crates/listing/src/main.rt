@@ -1,5 +1,5 @@
-// Document 01's listing program: reads width and height (two bytes each, little-endian) and gray bytes, and prints `refused N`, or the picture's
-// finders and detections. The text is that of crate listing_text.
+// Document 01's listing program: reads the input, of which as many bytes are enough (theorem `read-enough` of crate listing_text), and writes its listing,
+// every character of which is proved there.
 fn main() {
     let mut input = [0u8; 40004];
     let n = io::read_full(0, &mut input);

@@ -17,18 +17,21 @@ pub length-digits : (b k n : ℕ) → length (digits b k n) ≡ k
 length-digits b zero n = refl
 length-digits b (suc k) n = omega (arith, length-append (digits b k (n / b)) (glyph (n % b) ∷ []), length-digits b k (n / b))
 
--- ---- hexadecimal: of a number that fits, as many as are asked for
-pub few : (b w n k : ℕ) → 1 < b → n < b ^ w → Fewest b w n k → k ≡ w
-few b w n k p h f = go (ltb w k) refl
+-- ---- how many: as many as hold the number, and no fewer than are asked for
+pub at-most : (b m w n k : ℕ) → Fewest b w n k → 1 < b → w ≤ m → n < b ^ m → k ≤ m
+at-most b m w n k f p l h = go (ltb m k) refl
   where
-    go : (t : Bool) → ltb w k ≡ t → k ≡ w
-    go false e = let l = ltb-false w k e in omega (arith, f .0, l)
+    go : (t : Bool) → ltb m k ≡ t → k ≤ m
+    go false e = ltb-false m k e
     go true e =
-        let l = ltb-true w k e in
-        let m : w ≤ k - 1 = omega (arith, l) in
-        let q : b ^ w ≤ b ^ (k - 1) = pow-le-pow-right (omega arith) m in
-        let g : b ^ (k - 1) ≤ n = f .2 l in
+        let u = ltb-true m k e in
+        let v : m ≤ k - 1 = omega (arith, u) in
+        let q : b ^ m ≤ b ^ (k - 1) = pow-le-pow-right (omega arith) v in
+        let g : b ^ (k - 1) ≤ n = f .2 (omega (arith, u, l)) in
         absurd (omega (arith, q, g, h))
+
+few : (b w n k : ℕ) → 1 < b → n < b ^ w → Fewest b w n k → k ≡ w
+few b w n k p h f = omega (arith, f .0, at-most b w w n k f p (omega arith) h)
 
 -- ---- decimal
 decimal-step : (k m n : ℕ) → k < m → n < 10 ^ suc k → (0 < k → 10 ^ k ≤ n) → digits 10 (suc k) n ≡ decimalUpTo m n
@@ -56,16 +59,7 @@ decimal-is n (suc k) h f =
 
 -- a number of 64 bits has twenty digits at most
 pub twenty-at-most : (n k : ℕ) → n < 2 ^ 64 → Fewest 10 1 n k → k ≤ 20
-twenty-at-most n k h f = go (ltb 20 k) refl
-  where
-    go : (t : Bool) → ltb 20 k ≡ t → k ≤ 20
-    go false e = ltb-false 20 k e
-    go true e =
-        let l = ltb-true 20 k e in
-        let m : 20 ≤ k - 1 = omega (arith, l) in
-        let q : 10 ^ 20 ≤ 10 ^ (k - 1) = pow-le-pow-right (omega arith) m in
-        let g : 10 ^ (k - 1) ≤ n = f .2 (omega (arith, l)) in
-        absurd (omega (arith, q, g, h))
+twenty-at-most n k h f = at-most 10 20 1 n k f (omega arith) (omega arith) (omega (arith, h))
 
 -- ---- the fields
 length-last : (xs : List ℕ) (e : ℕ) → length (xs ++ (e ∷ [])) ≡ length xs + 1
