@@ -3,7 +3,7 @@ use Prim.Native.Nat.{ℕ, _+_, _*_}
 use mathlib.Core.Bool.{Bool, not, _||_}
 use mathlib.Core.List.{List, [], _∷_, _++_}
 use lib.Dec.{eqb, ltb}
-use lib.ListN.{length, drop, getD}
+use lib.ListN.{length, getD}
 use lib.Ieee.{binary32, toBits, ofBits}
 use Rattle.lists.specs.Lists.{tabulate, flatMap}
 use Rattle.lcr_core.specs.Outcome.{Check, firstOf, unless, zeroSide, largeSide}
