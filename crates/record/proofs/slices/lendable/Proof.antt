@@ -30,7 +30,7 @@ length-at-requires : tie.Need-length-at-requires Inv-loop μ-loop
 length-at-requires c κs = search needs
 
 returns : tie.Need-returns Inv-loop μ-loop
-returns c = let l = c .before .before .before .loop in sym (l .inv .1 ∙ lendable-not _ _ _ (l .i) _ (c .before .before .loop-test .taken) (c .before .length-at .ensures) (c .if1 .taken))
+returns c = let l = c .before .before .before .loop in sym (l .inv .1 ∙ lendable-not _ _ _ (l .i) _ (c .before .before .loop-test .taken) (c .before .length-at .ensures) (omega (arith, c .if1 .taken)))
 
 add-i : tie.Need-add-i Inv-loop μ-loop
 add-i c = omega arith
@@ -39,7 +39,7 @@ loop-less : tie.Need-loop-less Inv-loop μ-loop
 loop-less c = omega arith
 
 loop-again : tie.Need-loop-again Inv-loop μ-loop
-loop-again c = let l = c .before .before .before .loop in (omega (arith, c .before .before .loop-test .taken), l .inv .1 ∙ lendable-more _ _ _ (l .i) _ (c .before .before .loop-test .taken) (c .before .length-at .ensures) (c .if1 .left))
+loop-again c = let l = c .before .before .before .loop in (omega (arith, c .before .before .loop-test .taken), l .inv .1 ∙ lendable-more _ _ _ (l .i) _ (c .before .before .loop-test .taken) (c .before .length-at .ensures) (omega (arith, c .if1 .left)))
 
 returns-2 : tie.Need-returns-2 Inv-loop μ-loop
 returns-2 c = let l = c .before .loop in sym (l .inv .1 ∙ lendable-end _ _ _ (l .i) (omega (arith, c .loop-test .left)))
