@@ -1,5 +1,6 @@
 -- `finders::held::merge_into` meets its contract. Assumes nothing.
 use Rattle.finders.proofs.Tables.{room-at, merged-at, merged-new, merged-over}
+use native.Mathlib.Omega.{arith}
 use borrow.Author.Needs.{needs}
 use Rattle.finders.proofs.held.merge_into.Statement.{statement}
 use Rattle.finders.proofs.held.merge_into.Tie as tie
@@ -35,13 +36,13 @@ add-out : tie.Need-add-out
 add-out c = search needs
 
 returns-2 : tie.Need-returns-2
-returns-2 c = merged-new _ (c .before .before .before .pre) _ _ (c .before .before .first-within .ensures) (c .before .if1 .left) (c .if2 .taken)
+returns-2 c = merged-new _ (c .before .before .before .pre) _ _ (c .before .before .first-within .ensures) (c .before .if1 .left) (omega (arith, c .if2 .taken))
 
 no-finders-requires : tie.Need-no-finders-requires
 no-finders-requires c κs = search needs
 
 returns-3 : tie.Need-returns-3
-returns-3 c = rw (c .no-finders .ensures) (merged-over _ (c .before .before .before .before .pre) _ _ (c .before .before .before .first-within .ensures) (c .before .before .if1 .left) (c .before .if2 .left))
+returns-3 c = rw (c .no-finders .ensures) (merged-over _ (c .before .before .before .before .pre) _ _ (c .before .before .before .first-within .ensures) (c .before .before .if1 .left) (omega (arith, c .before .if2 .left)))
 
 pub merge-into-spec : {M : Type 1} → statement M
 merge-into-spec =

@@ -94,7 +94,10 @@ loop-again c =
     )
 
 returns-2 : tie.Need-returns-2 Inv-loop μ-loop
-returns-2 c = c .before .loop .inv .3 ∙ remaining-end _ _ _ (c .loop-test .left)
+returns-2 c =
+    let l = c .before .loop in
+    let e : c .before .before .before .args .len ≤ l .at = omega (arith, c .loop-test .left) in
+    l .inv .3 ∙ remaining-end _ _ _ e
 
 pub next-hit-spec : {M : Type 1} → statement M
 next-hit-spec =

@@ -49,7 +49,7 @@ scan-line-requires c κs =
     let s = c .before .before .before .before .before in
     let a = s .args in
     let l = c .before .before .loop in (
-      subst (λ z. z .len ≤ maxSide) (sym (c .line-at .ensures)) (line-short (now (a .bits)) (a .width) (a .height) (s .pre .0) (a .columns) (2 * l .k)),
+      subst (λ z. z .len ≤ maxSide) (sym (c .line-at .ensures)) (line-short (now (a .bits)) (a .width) (a .height) (s .pre .0) (a .columns) _),
       sound-mono _ _ _ (omega (arith, lines (c .before .before .before) .1, l .inv .0)) (l .inv .1),
     )
 

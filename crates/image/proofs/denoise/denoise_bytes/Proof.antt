@@ -15,7 +15,7 @@ use Rattle.image.proofs.denoise.denoise_bytes.Tie as tie
 
 abbrev Inv-loop : tie.InvT-loop
 Inv-loop bits w h out₀ bytes rows₀ j₀ out rows j =
-    (j ≤ bytesOf (w * h)) × (length out ≡ length out₀) × Ready bits w j rows × (out ≡ filled j (byteOf (denoisedAt bits w h)) out₀)
+    (w * h ≤ 16777216) × (j ≤ bytesOf (w * h)) × (length out ≡ length out₀) × Ready bits w j rows × (out ≡ filled j (byteOf (denoisedAt bits w h)) out₀)
 
 abbrev μ-loop : tie.MeasureT-loop
 μ-loop bits w h out₀ bytes rows₀ j₀ out rows j = bytesOf (w * h) - j
@@ -34,10 +34,10 @@ first-rows-requires : tie.Need-first-rows-requires Inv-loop μ-loop
 first-rows-requires c κs = omega arith
 
 loop-holds : tie.Need-loop-holds Inv-loop μ-loop
-loop-holds c = (omega arith, omega arith, c .first-rows .ensures, filled-none _ _)
+loop-holds c = (area (c .before .before .before), omega arith, omega arith, c .first-rows .ensures, filled-none _ _)
 
 next-rows-requires : tie.Need-next-rows-requires Inv-loop μ-loop
-next-rows-requires c κs = (omega arith, omega (arith, area (c .before .before .before .before .before)), c .before .loop .inv .2)
+next-rows-requires c κs = (omega arith, omega arith, c .before .loop .inv .3)
 
 voted-byte-requires : tie.Need-voted-byte-requires Inv-loop μ-loop
 voted-byte-requires c κs = omega arith
@@ -46,13 +46,13 @@ shared-slice-read-chosen : tie.Need-shared-slice-read-chosen Inv-loop μ-loop
 shared-slice-read-chosen c = omega arith
 
 mul-chosen : tie.Need-mul-chosen Inv-loop μ-loop
-mul-chosen c = omega (arith, area (c .before .before .before .before .before .before .before .before))
+mul-chosen c = omega arith
 
 cast-chosen : tie.Need-cast-chosen Inv-loop μ-loop
-cast-chosen c = omega (arith, area (c .before .before .before .before .before .before .before .before))
+cast-chosen c = omega arith
 
 chosen-requires : tie.Need-chosen-requires Inv-loop μ-loop
-chosen-requires c κs = omega (arith, area (c .before .before .before .before .before .before .before .before))
+chosen-requires c κs = omega arith
 
 slice-write-out : tie.Need-slice-write-out Inv-loop μ-loop
 slice-write-out c = omega arith
@@ -68,9 +68,10 @@ loop-again c =
     let l = c .before .before .before .before .before .loop in
     let rows = c .before .before .before .next-rows .ensures in (
       omega arith,
+      omega arith,
       simp length-set (omega arith),
       rows .1,
-      filled-step _ _ _ _ _ (omega arith) (l .inv .3) (denoised-byte _ _ _ _ _ (rows .0) _ _ (c .before .before .voted-byte .ensures) (c .chosen .ensures)),
+      filled-step _ _ _ _ _ (omega arith) (l .inv .4) (denoised-byte _ _ _ _ _ (rows .0) _ _ (c .before .before .voted-byte .ensures) (c .chosen .ensures)),
     )
 
 same-length : tie.Need-same-length Inv-loop μ-loop
@@ -81,7 +82,7 @@ returns c =
     let l = c .before .loop in
     let a = c .before .before .before .before .before .args in
     let e : l .j ≡ bytesOf (a .w * a .h) = omega arith in
-    rw e at (l .inv .3)
+    rw e at (l .inv .4)
 
 pub denoise-bytes-spec : {M : Type 1} → statement M
 denoise-bytes-spec =
