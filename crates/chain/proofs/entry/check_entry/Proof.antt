@@ -1,6 +1,7 @@
 -- `chain::entry::check_entry` meets its contract. Assumes nothing.
 use mathlib.Core.Path.{_≡_, sym, _∙_}
 use mathlib.Core.List.{_∷_, []}
+use native.Mathlib.Omega.{arith}
 use Rattle.stages.specs.Stages.{stagesRefusal}
 use Rattle.chain.proofs.EntryLaws.{stages-refuse, room-short, room-enough}
 use borrow.Author.Needs.{needs}
@@ -22,10 +23,10 @@ returns : tie.Need-returns
 returns c = stages-refuse _ _ _ (c .before .before .check-stages .ensures) (λ e. c .if1 .taken (c .before .number .ensures ∙ e))
 
 returns-2 : tie.Need-returns-2
-returns-2 c = room-short _ _ (passed (c .before)) (c .if2 .taken)
+returns-2 c = room-short _ (c .before .before .before .before .args .detections) (passed (c .before)) (omega (arith, c .if2 .taken))
 
 returns-3 : tie.Need-returns-3
-returns-3 c = room-enough _ _ (passed (c .before)) (c .if2 .left)
+returns-3 c = room-enough _ (c .before .before .before .before .args .detections) (passed (c .before)) (omega (arith, c .if2 .left))
 
 pub check-entry-spec : {M : Type 1} → statement M
 check-entry-spec =
