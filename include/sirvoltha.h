@@ -44,7 +44,7 @@ enum { PLATE_GRAY8 = 1, PLATE_RGB8 = 3, PLATE_RGBA8 = 4 };
 #define PLATE_DETECTION_BYTES 367
 
 /* A call takes less stack than this, whatever the picture: 28,896 bytes, and where the dynamic linker binds memcpy at its first call what it
-   takes for that, 3,016 bytes as measured (README.md). It holds for the single stages of sirvoltha_stages.h too. */
+   takes for that, some 3,000 bytes as measured (README.md). It holds for the single stages of sirvoltha_stages.h too. */
 #define PLATE_STACK_BYTES 40960
 
 /* Looks for plates in a picture.
