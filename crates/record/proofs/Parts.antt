@@ -9,7 +9,7 @@ use native.Mathlib.Omega.{arith}
 use lib.Dec.{eqb}
 use lib.ListN.{length, take, drop, getD, set, replicate, length-append, length-set}
 use lib.Seq.{take-all, take-length, drop-length, length-take-le}
-use lib.Ieee.{Float, nan, binary32, toBits}
+use lib.Ieee.{Float, binary32, toBits}
 use Rattle.lists.specs.Lists.{tabulate, filled, flatMap}
 use Rattle.lists.proofs.Tabulate.{filled-none, filled-step, filled-whole, length-tabulate}
 use Rattle.lists.proofs.Folds.{flatMap-append}

@@ -1,7 +1,7 @@
 -- `record::answer_line` meets its contract. Assumes nothing.
 use mathlib.Core.Path.{_≡_, refl}
 use mathlib.Core.Logic.{⊎-elim}
-use Prim.Native.Nat.{_≤_, min}
+use Prim.Native.Nat.{min}
 use native.Mathlib.Omega.{arith}
 use denote.Ref.{now}
 use borrow.Author.Tests.{ne-eqb}
