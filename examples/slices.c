@@ -1,7 +1,7 @@
 /* Calls every exported function on a picture of each pixel format, drawn from the plate on standard input (examples/plate.gray): neither
    square nor symmetric, in colour, darker to the right, with specks and with bytes between its rows. Prints each number that is returned and,
    of each lent slice, its length and the hash (FNV-1a, 64 bits) of its bytes as the call left them. No two slices hold the same, so that no
-   two parameters can change places unseen. The stored output is the published Rust's (examples/slices.py). */
+   two parameters can change places unseen. The stored output is the Rust's (examples/slices.py). */
 #include <inttypes.h>
 #include <stdio.h>
 #include "sirvoltha_stages.h"

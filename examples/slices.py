@@ -1,5 +1,5 @@
 #!/usr/bin/env python3
-"""Writes what examples/slices.c must print, by the published Rust: the whole chain as record 96 of docs/REPLAY.md, the finders as a listing.
+"""Writes what examples/slices.c must print, by the Rust as oracle/build makes it: the whole chain as record 96 of docs/REPLAY.md, the finders as a listing.
 
 usage: examples/slices.py < examples/plate.gray > examples/slices.expected    (oracle/README.md says what it needs)"""
 import struct, subprocess, sys
@@ -20,7 +20,7 @@ def oracle(what, given):
 
 
 def draw(format):
-    """The picture's bytes, as draw of slices.c has them, and its gray values by document 01's rule."""
+    """The picture's bytes, as draw of slices.c has them, and its gray values by document 02's rule."""
     state, out, gray = format, bytearray(), bytearray()
 
     def chance():
@@ -35,7 +35,7 @@ def draw(format):
             green = 255 - light if last < 3 else light
             red, blue = green // 2 + y // 4, chance() // 4
             out += bytes([green] if format == 1 else [red, green, blue, last][:format])
-            gray.append(green if format == 1 else (54 * red + 183 * green + 19 * blue) // 256)
+            gray.append(green if format == 1 else (54 * red + 183 * green + 19 * blue + 128) // 256)
         out += bytes(chance() for _ in range(gap))
     return out, gray
 

@@ -57,7 +57,8 @@ enum { PLATE_GRAY8 = 1, PLATE_RGB8 = 3, PLATE_RGBA8 = 4 };
 
    Then the buffers that are written. Each is followed by its length in bytes; a longer one is fine, and its tail is not touched.
 
-     gray        PLATE_GRAY_BYTES       the gray picture, (54 r + 183 g + 19 b) / 256 rounded down
+     gray        PLATE_GRAY_BYTES       the gray picture: of a colour the nearest whole number, halves up,
+                                        (54 r + 183 g + 19 b + 128) / 256 rounded down; a gray pixel keeps its value
      bits        PLATE_BIT_BYTES        black and white: pixel number y * width + x is bit 7 - number % 8 of its byte, 1 for dark;
                                         unused bits of the last byte are 0
      denoised    PLATE_BIT_BYTES        the same, denoised

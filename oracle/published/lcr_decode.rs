@@ -1,5 +1,5 @@
 //! Root of the crate `lcr_decode` as the comparison builds it: the published files of
-//! lcr-decode, unchanged, and a stand-in for the one that was never published.
+//! lcr-decode, unchanged but for the rule of gray, and a stand-in for the one that was never published.
 //! `oracle/build` puts the published files beside a copy of this one; the functions of
 //! `oracle/access/` follow the published text of `image.rs`, `transform.rs` and `detect.rs`.
 #![allow(dead_code)]

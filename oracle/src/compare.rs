@@ -147,7 +147,7 @@ fn replayed(function: u8, name: &str, group: &str, seed: u64, cases: u64, met: &
     row
 }
 
-/// The whole chain by its C entry, on pictures of every size; the last has every colour.
+/// The whole chain by its C entry, on pictures of every size; the last two have every colour.
 fn linked_chain(seed: u64, cases: u64) -> Row {
     let mut row = Row::new(CHAIN_FROM_C);
     let mut rng = Rng::new(seed ^ 97 << 32);
@@ -161,7 +161,11 @@ fn linked_chain(seed: u64, cases: u64) -> Row {
     }
     let colours: Vec<u8> = (0..1u32 << 24).flat_map(|c| [c as u8, (c >> 8) as u8, (c >> 16) as u8]).collect();
     let lengths = [1 << 24, 1 << 21, 1 << 21, 1 << 18, 1 << 18, 1 << 18, 1 << 18, 1 << 18];
-    compare_chain(&mut row, &colours, (4096, 4096), 3 * 4096, 3, lengths.map(|n| vec![7; n]), 367);
+    let four_bytes: Vec<u8> = colours.chunks(3).flat_map(|c| [c[0], c[1], c[2], c[0] ^ 85]).collect();
+    for (format, picture) in [(3, &colours), (4, &four_bytes)] {
+        let slices = lengths.map(|n| vec![7; n]);
+        compare_chain(&mut row, picture, (4096, 4096), format as u32 * 4096, format, slices, 367);
+    }
     row
 }
 

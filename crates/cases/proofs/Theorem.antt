@@ -1,4 +1,4 @@
--- Each case that document 01 marks P holds. Assumes nothing.
+-- Each case holds. Assumes nothing.
 use mathlib.Core.Path.{refl}
 use Rattle.lists.specs.Lists.{Each, folded, those}
 use Rattle.ratio.specs.Ratio.{passes}
@@ -7,4 +7,4 @@ use Rattle.cases.specs.Cases.{Holds, cases}
 
 pub each-case : Each Holds cases
 unfolding passes level midway those folded
-each-case = (refl, (refl, (refl, (refl, (refl, (refl, (refl, (refl, (refl, (refl, (refl, (refl, tt))))))))))))
+each-case = (refl, (refl, (refl, (refl, (refl, (refl, (refl, (refl, (refl, (refl, (refl, (refl, (refl, (refl, (refl, (refl, (refl, (refl, tt))))))))))))))))))

@@ -1,1 +1,1 @@
-// The cases that document 01 marks P, as one theorem. No code.
+// The cases that document 01 marks P and gray values of document 02, as one theorem. No code.

@@ -1,5 +1,5 @@
--- Gray conversion (document 01: refusal 3; "Gray conversion: 1, 2, 3, then 4 .., then 5 .."; "Gray is (54 r + 183 g + 19 b) / 256 rounded down; gray
--- pixels keep their value"). Definitions only.
+-- Gray conversion (document 01: refusal 3; "Gray conversion: 1, 2, 3, then 4 .., then 5 .."; "gray pixels keep their value"; document 02, N3: "the nearest
+-- whole number, halves up: (54 r + 183 g + 19 b + 128) / 256, rounded down"). Definitions only.
 use Prim.Native.Nat.{ℕ, _+_, _-_, _*_, _/_, _%_}
 use mathlib.Core.Bool.{Bool, true, false, cond, _||_}
 use mathlib.Core.List.{List, [], _∷_}
@@ -56,9 +56,9 @@ grayRefusal len w h s f room =
     ∷ record { refuses = ltb room (w * h); outcome = ShortOutput }
     ∷ [])
 
--- the gray value of a colour
+-- the gray value of a colour, to the nearest
 abbrev pub grayRule : ℕ → ℕ → ℕ → ℕ
-grayRule r g b = (54 * r + 183 * g + 19 * b) / 256
+grayRule r g b = (54 * r + 183 * g + 19 * b + 128) / 256
 
 -- that of the pixel with format byte f whose first byte stands at i: a gray pixel keeps its value
 unfoldable pub grayOf : List ℕ → ℕ → ℕ → ℕ

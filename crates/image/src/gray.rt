@@ -49,11 +49,11 @@ pub fn check_gray(
     Outcome::Done
 }
 
-// The gray value of a colour.
+// The gray value of a colour, to the nearest.
 fn luma(r: u8, g: u8, b: u8) -> u8
     ensures { λ v. ⌜ v ≡ grayRule r g b ⌝ }
 {
-    ((54 * r as u32 + 183 * g as u32 + 19 * b as u32) / 256) as u8
+    ((54 * r as u32 + 183 * g as u32 + 19 * b as u32 + 128) / 256) as u8
 }
 
 // A row of gray pixels.

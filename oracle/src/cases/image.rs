@@ -97,6 +97,9 @@ fn gray_case(i: u64, rng: &mut Rng, reach: Reach) -> Record {
             b.u32(2).u32(2).u32(8).u8(i as u8).u32(4).raw(&picture);
         });
     }
+    if i % 8 == 7 && i >= SIDES.len() as u64 {
+        return halves_case(rng);
+    }
     let gray = if i % 128 == 64 { longest(rng) } else { plain(rng, reach, COLOURED) };
     let spoilt = rng.one_in(3);
     let most = most_coloured(rng, reach);
@@ -107,6 +110,23 @@ fn gray_case(i: u64, rng: &mut Rng, reach: Reach) -> Record {
     let room = about(rng, lendable(width as u64 * height as u64));
     Record::new(16).with(|b| {
         b.u32(width).u32(height).u32(stride).u8(format).u32(room as u32).raw(&bytes);
+    })
+}
+
+/// Any colours, each so that the weighted sum is half a gray value past a whole one, or 1 from that.
+fn halves_case(rng: &mut Rng) -> Record {
+    let (width, height) = (rng.whole(1, 24), rng.whole(1, 24));
+    let (format, gap) = (rng.pick(&FORMATS[1..]), rng.whole(0, 9));
+    let (row, stride) = ((width * format as u32) as usize, width * format as u32 + gap);
+    let mut picture = rng.bytes((stride * height) as usize);
+    for pixel in picture.chunks_mut(stride as usize).flat_map(|line| line[..row].chunks_mut(format as usize)) {
+        let past = rng.pick(&[127u8, 128, 129]);
+        let without_green = pixel[0].wrapping_mul(54).wrapping_add(pixel[2].wrapping_mul(19));
+        // 183 times 7 is 5 times 256 and 1.
+        pixel[1] = past.wrapping_sub(without_green).wrapping_mul(7);
+    }
+    Record::new(16).with(|b| {
+        b.u32(width).u32(height).u32(stride).u8(format).u32(width * height + gap).raw(&picture);
     })
 }
 
