@@ -23,7 +23,7 @@ Holds (runs a b c d e pass) = passes a b c d e ≡ pass
 Holds (means l v) = level l ≡ v
 Holds (pixel r g b v) = grayRule r g b ≡ v
 
--- those marked P, then pixels: document 02's, the least blue that isn't black, an exact half, just under a half, and white
+-- those marked P, then pixels: document 02's, the last blue that is black and the next one, an exact half, just under a half, white
 abbrev pub cases : List Case
 cases =
     runs 1 1 3 1 1 true
