@@ -1,4 +1,4 @@
-//! Times each stage and the whole chain beside the published Rust, in one run: the two take
+//! Times each stage and the whole chain beside the Rust of oracle/build, in one run: the two take
 //! turns on the same picture, and the least time of each counts. Time is the processor time
 //! of this thread. Slices are lent and not cleared between calls; the Rust allocates its
 //! results at each call, as its functions do. See bench/run.
