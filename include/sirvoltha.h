@@ -76,7 +76,10 @@ enum { PLATE_GRAY8 = 1, PLATE_RGB8 = 3, PLATE_RGBA8 = 4 };
                                               but d = 1e-9 where this is less than 1e-9 from 0
 
    Returns PLATE_DONE or a refusal. After 1 to 5 no byte has been written. After 6 detections is untouched, and the other buffers hold
-   what they would hold after 0. */
+   what they would hold after 0.
+
+   Another exposure moves no detection: with one whole number added to every byte of a PLATE_GRAY8 picture, none going below 0 or above
+   255, the same bytes are written to bits, denoised and detections, and the same number is returned (proved: crates/exposure). */
 uint8_t plate_chain(const uint8_t *picture, size_t picture_len,
                     uint32_t width, uint32_t height, uint32_t stride, uint8_t format,
                     uint8_t *gray, size_t gray_len,

@@ -4,6 +4,7 @@
 use crate::answers::{Source, answer, chain_of};
 use crate::cases::{Reach, case, chain_case};
 use crate::coverage::Coverage;
+use crate::exposures;
 use crate::listing;
 use crate::record::{CHAIN_FROM_C, FUNCTIONS, Record, lent, program_of};
 use crate::rng::Rng;
@@ -169,7 +170,9 @@ fn linked_chain(seed: u64, cases: u64) -> Row {
     row
 }
 
-fn compare_chain(
+/// Compares a call of the C entry with the Rust. Gives the number and the nine slices that it left, or nothing where
+/// no library is linked.
+pub fn compare_chain(
     row: &mut Row,
     picture: &[u8],
     sides: (u32, u32),
@@ -177,13 +180,13 @@ fn compare_chain(
     format: u8,
     slices: [Vec<u8>; 8],
     room: u32,
-) {
+) -> Option<(u8, [Vec<u8>; 9])> {
     let mut out = lent(room);
     let [g, b, d, m, l, h, e, n] = slices.clone();
     let mut got = [g, b, d, m, l, h, e, n, out.clone()];
     let Some(number) = crate::rattle::chain(picture, sides, stride, format, &mut got) else {
         row.unanswered += 1;
-        return;
+        return None;
     };
     let done = chain_of(picture, sides, stride, format, slices, room >= 367);
     if done.number == 0 {
@@ -191,11 +194,8 @@ fn compare_chain(
     }
     row.cases += 1;
     let same = number == done.number && got[..8] == done.slices && got[8] == out;
-    if !same {
-        row.mismatches += 1;
-        if row.mismatches > 3 {
-            return;
-        }
+    row.mismatches += !same as u64;
+    if !same && row.mismatches <= 3 {
         let differs = |k: usize| if k < 8 { got[k] != done.slices[k] } else { got[8] != out };
         let which: Vec<usize> = (0..9).filter(|k| differs(*k)).collect();
         println!(
@@ -203,6 +203,7 @@ fn compare_chain(
             row.name, number, done.number
         );
     }
+    Some((number, got))
 }
 
 /// Runs everything, or one group, and prints the table. True where nothing differs.
@@ -219,6 +220,10 @@ pub fn run(seed: u64, share: f64, only: Option<&str>) -> bool {
     if wanted("chain") {
         rows.push(linked_chain(seed, some(1000)));
         rows.push(listing::compared(seed, some(1000)));
+    }
+    if wanted("exposures") {
+        rows.push(exposures::by_c_entry(seed, some(25_000)));
+        rows.push(exposures::listed(seed, some(1000)));
     }
     print_table(&rows);
     met.print();

@@ -12,7 +12,7 @@ use std::fmt::Write as _;
 use std::io::Write as _;
 use std::process::{Command, Stdio};
 
-const PROGRAM: &str = "target/bin/listing";
+pub const PROGRAM: &str = "target/bin/listing";
 
 fn digits32(v: f32) -> String {
     format!("{:08x}", if v.is_nan() { 0x7fc0_0000 } else { v.to_bits() })
@@ -103,7 +103,8 @@ fn input(i: u64, rng: &mut Rng) -> Vec<u8> {
     out
 }
 
-fn printed(input: &[u8]) -> Option<String> {
+/// What it prints.
+pub fn printed(input: &[u8]) -> Option<String> {
     let mut child = Command::new(PROGRAM).stdin(Stdio::piped()).stdout(Stdio::piped()).spawn().ok()?;
     let mut stdin = child.stdin.take()?;
     let bytes = input.to_vec();

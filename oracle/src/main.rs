@@ -5,6 +5,7 @@ mod cases;
 mod compare;
 mod coverage;
 mod differences;
+mod exposures;
 mod listing;
 mod picture;
 mod plate;

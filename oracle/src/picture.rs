@@ -74,6 +74,12 @@ impl Gray {
         Gray { width, height, pixels }
     }
 
+    /// The values 0 to 255 brought into a narrower range, from `low` on.
+    pub fn narrowed(mut self, low: u8, spread: u8) -> Gray {
+        self.pixels.iter_mut().for_each(|v| *v = low + (*v as u32 * spread as u32 / 255) as u8);
+        self
+    }
+
     /// A copy with blots, scratches, specks or a swap of dark and light.
     pub fn damaged(&self, rng: &mut Rng) -> Gray {
         let mut out = self.clone();

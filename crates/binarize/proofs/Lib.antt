@@ -2,7 +2,8 @@ pub mod Products
 pub mod FlagLaws
 pub mod Tallies
 pub mod LevelLaws
-pub mod Alike
+pub mod Brighter
+pub mod Unmarked
 pub mod Eights
 pub mod Dark
 pub mod Refusals

@@ -1,4 +1,5 @@
 pub mod Grids
 pub mod Measures
 pub mod Marking
+pub mod Brighter
 pub mod Refusals

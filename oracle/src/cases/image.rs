@@ -119,7 +119,8 @@ fn halves_case(rng: &mut Rng) -> Record {
     let (format, gap) = (rng.pick(&FORMATS[1..]), rng.whole(0, 9));
     let (row, stride) = ((width * format as u32) as usize, width * format as u32 + gap);
     let mut picture = rng.bytes((stride * height) as usize);
-    for pixel in picture.chunks_mut(stride as usize).flat_map(|line| line[..row].chunks_mut(format as usize)) {
+    for pixel in picture.chunks_mut(stride as usize).flat_map(|line| line[..row].chunks_mut(format as usize))
+    {
         let past = rng.pick(&[127u8, 128, 129]);
         let without_green = pixel[0].wrapping_mul(54).wrapping_add(pixel[2].wrapping_mul(19));
         // 183 times 7 is 5 times 256 and 1.
@@ -217,7 +218,12 @@ pub fn chain_case(i: u64, rng: &mut Rng, limit: usize, most: usize) -> ChainCase
         _ => scene(rng, limit),
     };
     let spoilt = i % 6 == 0 && !grid;
-    let (width, height, stride, format, picture) = coloured(rng, &gray, most, spoilt);
+    called(i, rng, &gray, most, spoilt)
+}
+
+/// A picture that is lent with its slices, of which now and then one is about as long as it must be.
+fn called(i: u64, rng: &mut Rng, gray: &Gray, most: usize, spoilt: bool) -> ChainCase {
+    let (width, height, stride, format, picture) = coloured(rng, gray, most, spoilt);
     let mut room = [lendable(blocks(width, height)); 8];
     room[0] = lendable(pixels(width, height));
     room[1] = lendable(bit_bytes(width, height));
@@ -227,6 +233,29 @@ pub fn chain_case(i: u64, rng: &mut Rng, limit: usize, most: usize) -> ChainCase
         room[k] = about(rng, room[k]);
     }
     ChainCase { sides: (width, height), stride, format, picture, room }
+}
+
+/// A gray picture whose values leave room for other exposures; some have near marks only, or no mark.
+pub fn exposed(i: u64, rng: &mut Rng, limit: usize) -> Gray {
+    let gray = match i % 16 {
+        0 => Gray::random(rng, 1, 1),
+        1 => Gray::filled(rng.whole(1, 99), rng.whole(1, 99), rng.byte()),
+        2..=5 => return uneven(rng),
+        6 => finder_grid([129, 128, 127, 130][(i / 16 % 4) as usize], 12, 2, 2),
+        7 => few_finders(rng),
+        8 => longest(rng),
+        9..=12 => clear_plate(rng, limit as u32 / 9_000 + 1, 3.5),
+        _ => scene(rng, limit),
+    };
+    let spread = rng.pick(&[0, 24, 25, 26, 60, 60, 120, 120, 200, 254]);
+    gray.narrowed(rng.whole(0, 255 - spread) as u8, spread as u8)
+}
+
+/// The whole chain on such a picture.
+pub fn exposure_case(i: u64, rng: &mut Rng) -> ChainCase {
+    let limit = rng.pick(&[900, 2_304, 10_000, 40_000]);
+    let gray = exposed(i, rng, limit);
+    called(i, rng, &gray, 0, i % 12 == 3)
 }
 
 pub fn chain_record(i: u64, rng: &mut Rng, reach: Reach) -> Record {

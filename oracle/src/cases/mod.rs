@@ -13,7 +13,7 @@ mod unanswered;
 use crate::record::Record;
 use crate::rng::Rng;
 
-pub use image::chain_case;
+pub use image::{ChainCase, chain_case, exposed, exposure_case};
 pub use scenes::scene;
 pub use unanswered::{is_unanswered, unanswered};
 

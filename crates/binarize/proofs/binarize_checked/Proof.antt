@@ -5,7 +5,7 @@ use Rattle.lcr_core.proofs.Checks.{unless-done}
 use Rattle.binary.proofs.Words.{bytes-same}
 use Rattle.blocks.proofs.Marking.{at-filled}
 use Rattle.blocks.proofs.Refusals as blocks
-use Rattle.binarize.proofs.Alike.{dark-same}
+use Rattle.binarize.proofs.Brighter.{dark-same}
 use borrow.Author.Needs.{needs}
 use Rattle.binarize.proofs.binarize_checked.Statement.{statement}
 use Rattle.binarize.proofs.binarize_checked.Tie as tie

@@ -1,0 +1,1 @@
+// What another exposure changes of a fix: nothing. No code.
