@@ -1,6 +1,11 @@
 
 // ---- What follows is not published: it opens the private parts to the comparison. ----
 
+/// The module of five runs that pass, or none.
+pub fn match_of(runs: [u32; 5]) -> Option<f32> {
+    matches_finder(runs)
+}
+
 /// The score of three finders in order, or none.
 pub fn score_of(f: &[Finder; 3]) -> Option<f32> {
     right_angle_score(f)

@@ -23,6 +23,7 @@ pub struct Row {
     pub panicked: u64,
     pub no_number: u64,
     pub slow: u64,
+    pub long: u64,
 }
 
 impl Row {
@@ -37,6 +38,7 @@ impl Row {
             Source::Panicked => self.panicked += 1,
             Source::NoNumber => self.no_number += 1,
             Source::Slow => self.slow += 1,
+            Source::Long => self.long += 1,
         }
     }
 }
@@ -231,17 +233,17 @@ pub fn run(seed: u64, share: f64, only: Option<&str>) -> bool {
 }
 
 /// The table. Under `own` stand the cases whose expected answer is not the Rust's: it
-/// panics, a score is not a number, or it would take too long.
+/// panics, a score is not a number, it would take too long, or runs are longer than a line.
 fn print_table(rows: &[Row]) {
-    let head = ["function", "cases", "mismatches", "unanswered", "own: panics", "no number", "slow"];
+    let head = ["function", "cases", "mismatches", "unanswered", "own: panics", "no number", "slow", "long"];
     println!(
-        "{:26}{:>10}{:>12}{:>12}{:>13}{:>11}{:>7}",
-        head[0], head[1], head[2], head[3], head[4], head[5], head[6]
+        "{:26}{:>10}{:>12}{:>12}{:>13}{:>11}{:>7}{:>9}",
+        head[0], head[1], head[2], head[3], head[4], head[5], head[6], head[7]
     );
     let line = |r: &Row| {
         println!(
-            "{:26}{:>10}{:>12}{:>12}{:>13}{:>11}{:>7}",
-            r.name, r.cases, r.mismatches, r.unanswered, r.panicked, r.no_number, r.slow
+            "{:26}{:>10}{:>12}{:>12}{:>13}{:>11}{:>7}{:>9}",
+            r.name, r.cases, r.mismatches, r.unanswered, r.panicked, r.no_number, r.slow, r.long
         )
     };
     rows.iter().for_each(line);
@@ -254,5 +256,6 @@ fn print_table(rows: &[Row]) {
         panicked: sum(|r| r.panicked),
         no_number: sum(|r| r.no_number),
         slow: sum(|r| r.slow),
+        long: sum(|r| r.long),
     });
 }

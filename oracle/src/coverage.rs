@@ -9,6 +9,7 @@ pub struct Coverage {
     counts: BTreeMap<u8, BTreeMap<u8, u64>>,
     detections: BTreeMap<u8, u64>,
     markers: u64,
+    passed: u64,
 }
 
 impl Coverage {
@@ -19,6 +20,9 @@ impl Coverage {
         }
         if function == 32 && answer[0] == 0 {
             *self.finders.entry(answer[1]).or_default() += 1;
+        }
+        if function == 36 {
+            self.passed += answer[0] as u64;
         }
         if function >= 80 && answer[0] == 0 {
             *self.counts.entry(function).or_default().entry(answer[1]).or_default() += 1;
@@ -36,6 +40,7 @@ impl Coverage {
         let numbers: Vec<String> = (0..9).map(|k| format!("{k}: {}", self.refusals[k])).collect();
         println!("refusal numbers met: {}", numbers.join(", "));
         println!("searches by finders: {}", list(&self.finders));
+        println!("five runs that pass: {}", self.passed);
         for (function, counts) in &self.counts {
             println!("answers of {function} by detections: {}", list(counts));
         }

@@ -4,7 +4,7 @@ use lcr_decode::detect::{Detection, Finder};
 use lcr_decode::transform::{numbers_of, transform_of};
 
 /// The functions by number, with their group.
-pub const FUNCTIONS: [(u8, &str, &str); 33] = [
+pub const FUNCTIONS: [(u8, &str, &str); 34] = [
     (1, "Version::new", "core"),
     (2, "Version::side", "core"),
     (3, "Version::modules", "core"),
@@ -19,6 +19,7 @@ pub const FUNCTIONS: [(u8, &str, &str); 33] = [
     (32, "find_finders", "finders"),
     (33, "stored list, read", "finders"),
     (34, "stored list, written", "finders"),
+    (36, "matches_finder", "finders"),
     (48, "solve, size 6", "geometry"),
     (49, "solve, size 8", "geometry"),
     (50, "Transform::from_quad", "geometry"),

@@ -53,6 +53,11 @@ pub fn bits_refusal(width: u32, height: u32, length: usize) -> u8 {
     refusal(&[zero_side(width, height), large_side(width, height), (4, short)])
 }
 
+/// Runs that no line of a picture has: `matches_finder` answers none.
+pub fn long_runs(runs: &[u32; 5]) -> bool {
+    runs.iter().sum::<u32>() > 4096
+}
+
 // ---- block values
 
 /// Means, least, greatest, edge marks, near marks of the blocks of 8 × 8.

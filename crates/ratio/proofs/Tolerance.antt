@@ -15,9 +15,9 @@ use lib.Ieee.Positive.{num, den, positive, den-pos, own-value, positive-of-value
 use borrow.Author.Tests.{lt-ltb, le-ltb, lt-leb, le-leb}
 use Rattle.lists.specs.Lists.{dist}
 use Rattle.float.specs.Floats.{absOf}
-use Rattle.float.specs.Steps.{minus32, times32, over32, whole32}
+use Rattle.float.specs.Steps.{minus32, times32, whole32}
 use Rattle.float.specs.Constants.{f0·55, f3, f4}
-use Rattle.ratio.specs.Ratio.{nearOne, nearThree}
+use Rattle.ratio.specs.Ratio.{nearOne, nearThree, outerOf, toleranceOf, beyond}
 use Rattle.float.proofs.Exactly.{rescale, small-exact, of-int-value, mul-is, div-is, abs-sub-is, lt-is}
 
 -- a sum of runs goes to an f32 exactly
@@ -78,13 +78,13 @@ not-ltb a b = go (ltb a b) (ltb→lt a b) (nltb→le a b)
 
 -- ---- s the sum of the four outer runs
 module _ (s : ℕ) (P : 0 < s) (S : s ≤ 32768) where
-  abbrev pub outer : Float
-  outer = over32 (whole32 s) f4
+  abbrev outer : Float
+  outer = outerOf s
 
-  abbrev pub tol : Float
-  tol = times32 outer f0·55
+  abbrev tol : Float
+  tol = toleranceOf outer
 
-  outer-is : HasValue outer false s 4
+  pub outer-is : HasValue outer false s 4
   outer-is =
       subst (λ (x : Float). HasValue x false s 4)
       (ap (λ (n : ℕ). round binary32 false n 4) (sym (mul-one s)) ∙ sym (div-is binary32 (whole32 s) f4 false false s 1 4 1 (lit< tt) (lit< tt) (lit< tt) (of-int-value binary32 s (le-trans S (lit≤ tt))) four))
@@ -121,7 +121,7 @@ module _ (s : ℕ) (P : 0 < s) (S : s ≤ 32768) where
       thrice-r k n d h = omega arith
 
   module _ (r : ℕ) (R : r ≤ 32768) where
-    abbrev pub gap : Float → Float
+    abbrev gap : Float → Float
     gap x = absOf (minus32 (whole32 r) x)
 
     -- the distance of r from q / 4
@@ -137,7 +137,7 @@ module _ (s : ℕ) (P : 0 < s) (S : s ≤ 32768) where
         few : (r q : ℕ) → r ≤ 32768 → q ≤ 98304 → dist (4 * r) q < 2 ^ 24
         few r q R Q = omega arith
 
-    pub one-test : not (lt tol (gap outer)) ≡ nearOne s r
+    pub one-test : not (beyond r outer tol) ≡ nearOne s r
     one-test = ap not (go (ltb (11 * s) (20 * D)) (ltb→lt (11 * s) (20 * D)) (nltb→le (11 * s) (20 * D))) ∙ not-ltb (11 * s) (20 * D)
       where
         D : ℕ
@@ -156,7 +156,7 @@ module _ (s : ℕ) (P : 0 < s) (S : s ≤ 32768) where
             less : (s D : ℕ) → 20 * D ≤ 11 * s → 256 * D ≤ 704 * s / 5
             less s D h = omega arith
 
-    pub three-test : not (lt (times32 f3 tol) (gap (times32 f3 outer))) ≡ nearThree s r
+    pub three-test : not (beyond r (times32 f3 outer) (times32 f3 tol)) ≡ nearThree s r
     three-test = ap not (go (ltb (33 * s) (20 * D)) (ltb→lt (33 * s) (20 * D)) (nltb→le (33 * s) (20 * D))) ∙ not-ltb (33 * s) (20 * D)
       where
         D : ℕ

@@ -1,11 +1,12 @@
--- When five runs are a finder's, and the module that they give (document 01, "Finding and ranking", first paragraph). Definitions only.
+-- When five runs are a finder's, and the module that they give (document 01, "Finding and ranking", first paragraph; document 02, N5). Definitions only.
 use Prim.Native.Nat.{ℕ, _+_, _*_}
-use mathlib.Core.Bool.{Bool, _&&_, cond}
+use mathlib.Core.Bool.{Bool, _&&_, cond, not}
 use lib.Dec.{leb, ltb}
-use lib.Ieee.{Float}
+use lib.Ieee.{Float, lt, le}
 use Rattle.lists.specs.Lists.{dist}
-use Rattle.float.specs.Steps.{over32, whole32}
-use Rattle.float.specs.Constants.{f7}
+use Rattle.float.specs.Floats.{absOf}
+use Rattle.float.specs.Steps.{minus32, times32, over32, whole32}
+use Rattle.float.specs.Constants.{f0, f0·55, f3, f4, f7}
 use Rattle.lcr_core.specs.Outcome.{maxSide}
 use Rattle.ratio.specs.declared.Match.{Match}
 use Rattle.ratio.specs.declared.Match.the-variants.{Module, Nothing}
@@ -33,3 +34,24 @@ unfoldable pub matchOf : ℕ → ℕ → ℕ → ℕ → ℕ → Match
 matchOf a b c d e =
     let total = a + b + c + d + e in
     cond (leb total maxSide && passes a b c d e) (Module (moduleOf total)) Nothing
+
+-- ---- the f32 test of document 000, step by step: no code takes it, and up to the longest side it says the same (proofs/Theorems.antt)
+-- outer: the mean of the four outer runs, whose sum is s
+abbrev pub outerOf : ℕ → Float
+outerOf s = over32 (whole32 s) f4
+
+-- tol: the tolerance for one module
+abbrev pub toleranceOf : Float → Float
+toleranceOf outer = times32 outer f0·55
+
+-- a run of n pixels is farther than tol from x
+abbrev pub beyond : ℕ → Float → Float → Bool
+beyond n x tol = lt tol (absOf (minus32 (whole32 n) x))
+
+-- the runs pass: seven pixels, a mean that is not 0 or less, no outer run beyond tol from it, the centre run not beyond 3 tol from 3 of it
+unfoldable pub floatPasses : ℕ → ℕ → ℕ → ℕ → ℕ → Bool
+floatPasses a b c d e =
+    let outer = outerOf (a + b + d + e) in
+    let tol = toleranceOf outer in
+    leb 7 (a + b + c + d + e) && not (le outer f0)
+    && (not (beyond a outer tol) && not (beyond b outer tol) && not (beyond d outer tol) && not (beyond e outer tol) && not (beyond c (times32 f3 outer) (times32 f3 tol)))

@@ -1,4 +1,5 @@
-// Records 32 to 34: the finder search and the stored list.
+// Records 32 to 34 and 36: the finder search, the stored list and the five-run test.
+use ratio::Match;
 use record::slices;
 use record::values;
 
@@ -38,11 +39,29 @@ fn write_list(p: &[u8], out: &mut [u8]) -> usize {
     13
 }
 
+fn matches_finder(p: &[u8], out: &mut [u8]) -> usize {
+    match ratio::matches_finder(
+        little_endian::get16(p, 0),
+        little_endian::get16(p, 2),
+        little_endian::get16(p, 4),
+        little_endian::get16(p, 6),
+        little_endian::get16(p, 8),
+    ) {
+        Match::Module(module) => {
+            little_endian::put8(out, 0, 1);
+            values::put_float(out, 1, module);
+        }
+        Match::Nothing => {}
+    }
+    5
+}
+
 pub fn answer(function: u8, p: &[u8], out: &mut [u8]) -> usize {
     match function {
         32 => find_finders(p, out),
         33 => read_list(p, out),
         34 => write_list(p, out),
+        36 => matches_finder(p, out),
         _ => 0,
     }
 }

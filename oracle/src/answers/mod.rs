@@ -5,8 +5,10 @@ mod geometry;
 mod pictures;
 
 use crate::record::{Bytes, Fields, Record};
+use crate::rules::long_runs;
 use lcr_core::Version;
 use lcr_core::color::Srgb8;
+use lcr_decode::detect::match_of;
 
 pub use pictures::{chain_of, finders_of};
 
@@ -21,6 +23,8 @@ pub enum Source {
     NoNumber,
     /// The comparison's own lines, since the Rust would take seconds.
     Slow,
+    /// The comparison's own lines, since five runs are longer than any line.
+    Long,
 }
 
 pub struct Answer {
@@ -36,6 +40,7 @@ pub fn answer(record: &Record) -> Answer {
         1..=8 => core_answer(record.function, f, &mut out),
         16..=18 => pictures::answer(record.function, f, &mut out),
         32..=34 => pictures::finders_answer(record.function, f, &mut out),
+        36 => runs_answer(f, &mut out),
         48..=58 => geometry::answer(record.function, f, &mut out),
         64..=67 => detections::alignment_answer(record.function, f, &mut out),
         80..=82 => detections::candidates_answer(record.function, f, &mut out),
@@ -71,6 +76,14 @@ fn core_answer(function: u8, f: &mut Fields, out: &mut Bytes) -> Source {
         }
     }
     Source::Rust
+}
+
+fn runs_answer(f: &mut Fields, out: &mut Bytes) -> Source {
+    let runs: [u32; 5] = core::array::from_fn(|_| f.u16() as u32);
+    let long = long_runs(&runs);
+    let module = if long { None } else { match_of(runs) };
+    out.u8(module.is_some() as u8).f32(module.unwrap_or(0.0));
+    if long { Source::Long } else { Source::Rust }
 }
 
 fn put_version(v: Option<Version>, out: &mut Bytes) {

@@ -7,6 +7,7 @@ mod core;
 mod finders;
 mod geometry;
 mod image;
+mod runs;
 mod scenes;
 mod unanswered;
 
@@ -27,7 +28,7 @@ pub enum Reach {
 }
 
 impl Reach {
-    /// Cases of a function. All in all the comparison has over a million.
+    /// Cases of a function: over a million in all, beside the five runs of 36.
     pub fn cases(self, function: u8) -> u64 {
         if self == Reach::Sample {
             return 1024;
@@ -40,6 +41,7 @@ impl Reach {
             17 | 18 => 65_536 + 14_464,
             32 => 12_000,
             33 | 34 => 30_000,
+            36 => runs::ALL + 10_400_000,
             48 | 49 => 30_000,
             50 | 51 => 40_000,
             52 => 90_000,
@@ -70,6 +72,7 @@ pub fn case(function: u8, i: u64, rng: &mut Rng, reach: Reach) -> Record {
         1..=8 => core::case(function, i, rng, reach),
         16..=18 => image::case(function, i, rng, reach),
         32..=34 => finders::case(function, i, rng, reach),
+        36 => runs::case(i, rng, reach),
         48..=58 => geometry::case(function, i, rng),
         64..=67 => alignment::case(function, i, rng, reach),
         80..=82 => candidates::case(function, i, rng, reach),
