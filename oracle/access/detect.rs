@@ -6,6 +6,16 @@ pub fn match_of(runs: [u32; 5]) -> Option<f32> {
     matches_finder(runs)
 }
 
+/// How many pixels a run has, up to the limit.
+pub fn length_of(bin: &Binary, x: u32, y: u32, step: i32, want: bool, limit: u32) -> u32 {
+    run_length(bin, x, y, step, want, limit)
+}
+
+/// Joins a hit to a list of finders, or adds it.
+pub fn join(found: &mut Vec<Finder>, x: f32, y: f32, module: f32) {
+    merge(found, x, y, module)
+}
+
 /// The score of three finders in order, or none.
 pub fn score_of(f: &[Finder; 3]) -> Option<f32> {
     right_angle_score(f)

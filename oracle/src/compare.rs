@@ -24,6 +24,7 @@ pub struct Row {
     pub no_number: u64,
     pub slow: u64,
     pub long: u64,
+    pub cut: u64,
 }
 
 impl Row {
@@ -31,7 +32,7 @@ impl Row {
         Row { name: name.to_string(), ..Row::default() }
     }
 
-    fn count(&mut self, source: Source) {
+    pub fn count(&mut self, source: Source) {
         self.cases += 1;
         match source {
             Source::Rust => (),
@@ -39,6 +40,7 @@ impl Row {
             Source::NoNumber => self.no_number += 1,
             Source::Slow => self.slow += 1,
             Source::Long => self.long += 1,
+            Source::Cut => self.cut += 1,
         }
     }
 }
@@ -194,7 +196,7 @@ pub fn compare_chain(
     if done.number == 0 {
         out[..367].copy_from_slice(&detection_bytes(&done.detections));
     }
-    row.cases += 1;
+    row.count(done.source);
     let same = number == done.number && got[..8] == done.slices && got[8] == out;
     row.mismatches += !same as u64;
     if !same && row.mismatches <= 3 {
@@ -233,17 +235,19 @@ pub fn run(seed: u64, share: f64, only: Option<&str>) -> bool {
 }
 
 /// The table. Under `own` stand the cases whose expected answer is not the Rust's: it
-/// panics, a score is not a number, it would take too long, or runs are longer than a line.
+/// panics, a score is not a number, it would take too long, runs are longer than a line, or a hit that it confirms
+/// has a run ended by the limit.
 fn print_table(rows: &[Row]) {
-    let head = ["function", "cases", "mismatches", "unanswered", "own: panics", "no number", "slow", "long"];
+    let head =
+        ["function", "cases", "mismatches", "unanswered", "own: panics", "no number", "slow", "long", "cut"];
     println!(
-        "{:26}{:>10}{:>12}{:>12}{:>13}{:>11}{:>7}{:>9}",
-        head[0], head[1], head[2], head[3], head[4], head[5], head[6], head[7]
+        "{:26}{:>10}{:>12}{:>12}{:>13}{:>11}{:>7}{:>9}{:>7}",
+        head[0], head[1], head[2], head[3], head[4], head[5], head[6], head[7], head[8]
     );
     let line = |r: &Row| {
         println!(
-            "{:26}{:>10}{:>12}{:>12}{:>13}{:>11}{:>7}{:>9}",
-            r.name, r.cases, r.mismatches, r.unanswered, r.panicked, r.no_number, r.slow, r.long
+            "{:26}{:>10}{:>12}{:>12}{:>13}{:>11}{:>7}{:>9}{:>7}",
+            r.name, r.cases, r.mismatches, r.unanswered, r.panicked, r.no_number, r.slow, r.long, r.cut
         )
     };
     rows.iter().for_each(line);
@@ -257,5 +261,6 @@ fn print_table(rows: &[Row]) {
         no_number: sum(|r| r.no_number),
         slow: sum(|r| r.slow),
         long: sum(|r| r.long),
+        cut: sum(|r| r.cut),
     });
 }

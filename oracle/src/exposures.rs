@@ -115,10 +115,11 @@ pub fn listed(seed: u64, pictures: u64) -> Row {
         let texts = [0].into_iter().chain(shifts).map(|by| {
             let pixels = gray.pixels.iter().map(|v| shifted(*v, by));
             let input: Vec<u8> = sides.iter().copied().chain(pixels).collect();
-            let text = printed(&input);
-            row.cases += 1;
-            row.mismatches += (text.as_deref() != Some(&expected(&input))) as u64;
-            text
+            let (text, source) = expected(&input);
+            let got = printed(&input);
+            row.count(source);
+            row.mismatches += (got.as_deref() != Some(&text)) as u64;
+            got
         });
         let texts: Vec<_> = texts.collect();
         let same = texts.iter().all(|t| *t == texts[0]);

@@ -1,11 +1,11 @@
 //! The listing program: what it prints on a picture, against document 01's format.
 
-use crate::answers::finders_of;
-use crate::cases::scene;
+use crate::answers::{Source, detections_in, finders_of};
+use crate::cases::{false_plate, full_table, scene, walls};
 use crate::compare::Row;
 use crate::picture::{finder_grid, ringed};
 use crate::rng::Rng;
-use lcr_decode::detect::{Detection, Finder, detect_candidates};
+use lcr_decode::detect::{Detection, Finder};
 use lcr_decode::image::binarize;
 use lcr_decode::transform::numbers_of;
 use std::fmt::Write as _;
@@ -35,9 +35,9 @@ fn detection_line(d: &Detection) -> String {
     format!("{} {marker} {}\n", d.version.get(), numbers.join(" "))
 }
 
-/// What the program is to print.
-pub fn expected(input: &[u8]) -> String {
-    let refused = |n: u8| format!("refused {n}\n");
+/// What the program is to print, and whose answer that is.
+pub fn expected(input: &[u8]) -> (String, Source) {
+    let refused = |n: u8| (format!("refused {n}\n"), Source::Rust);
     if input.len() < 4 {
         return refused(4);
     }
@@ -52,21 +52,25 @@ pub fn expected(input: &[u8]) -> String {
         _ => (),
     }
     let clean = binarize(&input[4..4 + pixels], width, height).denoised();
-    let Some(finders) = finders_of(&clean) else {
-        return refused(6);
+    let (finders, source) = finders_of(&clean);
+    let Some(finders) = finders else {
+        return (refused(6).0, source);
     };
-    let found = detect_candidates(&clean);
+    let found = detections_in(&clean, &finders, source);
     let mut out = String::new();
     let _ = writeln!(out, "{width} {height} {} {}", finders.len(), found.len());
     finders.iter().for_each(|f| out += &finder_line(f));
     found.iter().for_each(|d| out += &detection_line(d));
-    out
+    (out, source)
 }
 
 fn input(i: u64, rng: &mut Rng) -> Vec<u8> {
     let gray = match i {
         0 => ringed([3, 3, 9, 3, 3], [3, 3, 9, 3, 3], 0),
         _ if i % 40 == 1 => finder_grid(rng.pick(&[127, 128, 129]), 12, 2, 2),
+        _ if i % 40 == 21 => full_table(rng, 2),
+        _ if i % 16 == 2 => walls(rng, 2, false),
+        _ if i % 16 == 10 => false_plate(rng, 2, false),
         _ => {
             let limit = rng.pick(&[900, 10_000, 40_000, 40_000]);
             scene(rng, limit)
@@ -125,13 +129,14 @@ pub fn compared(seed: u64, cases: u64) -> Row {
     }
     for i in 0..cases {
         let input = input(i, &mut rng);
-        row.cases += 1;
+        let (text, source) = expected(&input);
+        row.count(source);
         let got = printed(&input);
-        if got.as_deref() != Some(&expected(&input)) {
+        if got.as_deref() != Some(&text) {
             row.mismatches += 1;
             let path = format!("target/oracle/mismatch-listing-{}", row.mismatches);
             let _ = std::fs::write(&path, &input);
-            println!("listing: mismatch, input in {path}\n{}{}", expected(&input), got.unwrap_or_default());
+            println!("listing: mismatch, input in {path}\n{text}{}", got.unwrap_or_default());
         }
     }
     row

@@ -13,6 +13,7 @@ mod rattle;
 mod record;
 mod rng;
 mod rules;
+mod search;
 
 use cases::Reach;
 use record::Record;
@@ -34,7 +35,7 @@ fn main() {
         Some("listing") => {
             let mut input = Vec::new();
             io::stdin().read_to_end(&mut input).expect("standard input");
-            print!("{}", listing::expected(&input));
+            print!("{}", listing::expected(&input).0);
         }
         _ => {
             eprintln!(

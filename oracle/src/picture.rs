@@ -66,6 +66,31 @@ impl Gray {
         }
     }
 
+    /// The picture with so many light pixels before and behind it along x and y.
+    pub fn framed(&self, x: [u32; 2], y: [u32; 2]) -> Gray {
+        let mut out = Gray::filled(self.width + x[0] + x[1], self.height + y[0] + y[1], 255);
+        out.paste(self, x[0], y[0]);
+        out
+    }
+
+    /// Another picture over this one, its top left corner at x, y.
+    pub fn paste(&mut self, other: &Gray, x: u32, y: u32) {
+        for (i, v) in other.pixels.iter().enumerate() {
+            let (dx, dy) = (i as u32 % other.width, i as u32 / other.width);
+            self.pixels[((y + dy) * self.width + x + dx) as usize] = *v;
+        }
+    }
+
+    /// Rows and columns exchanged.
+    pub fn transposed(&self) -> Gray {
+        let pixel = |i: u32| self.pixels[(i % self.height * self.width + i / self.height) as usize];
+        Gray {
+            width: self.height,
+            height: self.width,
+            pixels: (0..self.width * self.height).map(pixel).collect(),
+        }
+    }
+
     /// The part with its corner at x, y.
     pub fn part(&self, x: u32, y: u32, width: u32, height: u32) -> Gray {
         let row = |r: u32| (x + (y + r) * self.width) as usize;

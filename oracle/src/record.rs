@@ -4,7 +4,7 @@ use lcr_decode::detect::{Detection, Finder};
 use lcr_decode::transform::{numbers_of, transform_of};
 
 /// The functions by number, with their group.
-pub const FUNCTIONS: [(u8, &str, &str); 34] = [
+pub const FUNCTIONS: [(u8, &str, &str); 35] = [
     (1, "Version::new", "core"),
     (2, "Version::side", "core"),
     (3, "Version::modules", "core"),
@@ -20,6 +20,7 @@ pub const FUNCTIONS: [(u8, &str, &str); 34] = [
     (33, "stored list, read", "finders"),
     (34, "stored list, written", "finders"),
     (36, "matches_finder", "finders"),
+    (37, "how a run ended", "finders"),
     (48, "solve, size 6", "geometry"),
     (49, "solve, size 8", "geometry"),
     (50, "Transform::from_quad", "geometry"),

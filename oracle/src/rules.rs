@@ -1,5 +1,5 @@
-//! What document 01 adds to the published source, in the comparison's own lines: refusals,
-//! block values, the stored list and the firmware's bytes.
+//! What documents 01 and 02 add to the published source, in the comparison's own lines: refusals,
+//! how a run ended, block values, the stored list and the firmware's bytes.
 
 use crate::record::{Bytes, Fields};
 use lcr_decode::detect::{Detection, Finder};
@@ -56,6 +56,44 @@ pub fn bits_refusal(width: u32, height: u32, length: usize) -> u8 {
 /// Runs that no line of a picture has: `matches_finder` answers none.
 pub fn long_runs(runs: &[u32; 5]) -> bool {
     runs.iter().sum::<u32>() > 4096
+}
+
+// ---- how a run ended (document 02, N7)
+
+#[derive(Copy, Clone, PartialEq, Eq, Debug)]
+pub enum End {
+    Change,
+    Edge,
+    Limit,
+}
+
+/// A run as it was counted.
+#[derive(Copy, Clone, PartialEq, Eq, Debug)]
+pub struct Run {
+    pub length: u32,
+    pub end: End,
+}
+
+/// The run of one colour that starts at pixel `from` on a line of `len` pixels, counted up to the limit.
+pub fn run_on(len: u32, from: u32, want: bool, limit: u32, dark: impl Fn(u32) -> bool) -> Run {
+    let left = len.saturating_sub(from);
+    counted(left, limit, |k| dark(from + k) == want)
+}
+
+/// The one that ends before pixel `from`.
+pub fn run_back(from: u32, want: bool, limit: u32, dark: impl Fn(u32) -> bool) -> Run {
+    counted(from, limit, |k| dark(from - 1 - k) == want)
+}
+
+/// A run over `left` pixels up to the picture's edge; only a pixel behind it tells colour change from limit.
+fn counted(left: u32, limit: u32, same: impl Fn(u32) -> bool) -> Run {
+    let length = (0..left.min(limit)).take_while(|k| same(*k)).count() as u32;
+    let end = match () {
+        _ if length == left => End::Edge,
+        _ if same(length) => End::Limit,
+        _ => End::Change,
+    };
+    Run { length, end }
 }
 
 // ---- block values

@@ -4,3 +4,4 @@ pub mod Tables
 pub mod Answers
 pub mod Tails
 pub mod Theorems
+pub mod Published

@@ -16,9 +16,10 @@ use Rattle.lists.specs.Lists.{Each, range, folded, sumTo, flatMap}
 use Rattle.lists.proofs.Folds.{flatMap-same, each-range}
 use Rattle.lists.proofs.Numbers.{row-within}
 use Rattle.binary.specs.Binary.{darkBit, darkAt, bytesOf}
-use Rattle.binary.specs.Line.{row, column, run, runBack, runBefore, runAfter}
+use Rattle.binary.specs.Line.{row, column, run, runBack, runBefore, runAfter, endBefore, endAfter}
+use Rattle.binary.proofs.Ends.{endOf, before-end, after-end}
 use Rattle.binary.specs.Refusal.{shortBits, bitsRefusal}
-use Rattle.confirm.specs.Confirm.{limitOf, sideBefore, sideAfter, coreOf, andThen, confirmVertical, confirmHorizontal, rowConfirmed, columnConfirmed, confirmedOn}
+use Rattle.confirm.specs.Confirm.{limitOf, sideBefore, sideAfter, countedOf, anyCut, coreOf, andThen, verticalBy, horizontalBy, rowBy, columnBy, confirmedBy, confirmVertical, confirmHorizontal, rowConfirmed, columnConfirmed, confirmedOn}
 use Rattle.confirm.specs.declared.Centre.{Centre}
 use Rattle.confirm.specs.declared.Centre.the-variants.{Nowhere}
 use Rattle.confirm.specs.declared.Confirmed.{Confirmed}
@@ -38,7 +39,7 @@ use Rattle.geometry.specs.declared.Marker.{Marker}
 use Rattle.geometry.specs.declared.Marker.the-variants.{Missing}
 use Rattle.finders.specs.Hits.{Hit, runs, hits, lineHits}
 use Rattle.finders.specs.Held.{Sighting, Held, held, mergeNext}
-use Rattle.finders.specs.Search.{maxFinders, sighting, everySecond, seen, rowSightings, columnSightings, sightings, found}
+use Rattle.finders.specs.Search.{maxFinders, sighting, everySecond, seen, rowSightingsBy, columnSightingsBy, sightingsBy, foundBy, sightings, found}
 use Rattle.finders.specs.Rank.{ranked}
 use Rattle.finders.specs.Answer.{heldList, findRefusal, findersOf}
 use Rattle.rows.specs.Rows.{posPart, negPart, columnEnd, rowEnd, radiusOf, windowOf, middleOf, columnRuns, limitOf as rowsLimit, markerAt, confirmOf, startsAt, rowRuns, confirmed, seenOf, nearerOf, rowNearest, nearestOf, answer, findOf}
@@ -82,19 +83,28 @@ module _ (f g : ℕ → Bool) (len : ℕ) (same : (k : ℕ) → k < len → f k 
   unfolding lineHits
   hits-same = ap (hits 0) (runs-same true 0 0 len (omega arith))
 
+  end-same : (c : Bool) (limit i : ℕ) → i ≤ len → endBefore c f limit i ≡ endBefore c g limit i
+  end-same c limit i l = before-end c f limit i ∙ ap (endOf limit i) (back-same c i i l) ∙ sym (before-end c g limit i)
+
+  end-behind : (c : Bool) (limit i : ℕ) → endAfter c f len limit i ≡ endAfter c g len limit i
+  end-behind c limit i = after-end c f len limit i ∙ ap (endOf limit (len - i)) (run-same c i (len - i) (omega arith)) ∙ sym (after-end c g len limit i)
+
   before-same : (limit i : ℕ) → i ≤ len → sideBefore f limit i ≡ sideBefore g limit i
   unfolding sideBefore
   before-same limit i l =
-      rw (back-same false i (min limit i) l, back-same true (i - runBefore false g limit i) (min limit (i - runBefore false g limit i)) (omega arith))
+      let n = i - runBefore false g limit i in
+      rw (back-same false i (min limit i) l, end-same false limit i l, back-same true n (min limit n) (omega arith), end-same true limit n (omega arith))
 
   behind-same : (limit i : ℕ) → sideAfter f len limit i ≡ sideAfter g len limit i
   unfolding sideAfter
-  behind-same limit i = rw (after-same false limit i, after-same true limit (i + runAfter false g len limit i))
+  behind-same limit i =
+      let n = i + runAfter false g len limit i in
+      rw (after-same false limit i, end-behind false limit i, after-same true limit n, end-behind true limit n)
 
   core-same : (i limit : ℕ) → i ≤ len → coreOf f len i limit ≡ coreOf g len i limit
-  unfolding coreOf
+  unfolding coreOf anyCut countedOf
   core-same i limit l =
-      rw (back-same true i (min limit i) l, after-same true limit (i + 1), before-same limit (i - runBefore true g limit i) (omega arith), behind-same limit (i + 1 + runAfter true g len limit (i + 1)))
+      rw (back-same true i (min limit i) l, end-same true limit i l, after-same true limit (i + 1), end-behind true limit (i + 1), before-same limit (i - runBefore true g limit i) (omega arith), behind-same limit (i + 1 + runAfter true g len limit (i + 1)))
 
   column-same : (i limit : ℕ) → i ≤ len → columnRuns f len i limit ≡ columnRuns g len i limit
   unfolding columnRuns
@@ -117,12 +127,12 @@ folded-same g k [] h s = refl
 folded-same g k (x ∷ xs) h s = rw (h .0 s) (folded-same g k xs (h .1) (k s x))
 
 -- what a row's and a column's confirmation are made of
-abbrev rowBy : (ℕ → ℕ → Float → Centre) → (ℕ → ℕ → Float → Centre) → ℕ → Float → Float → Confirmed
-rowBy down across y centre m =
+abbrev rowThrough : (ℕ → ℕ → Float → Centre) → (ℕ → ℕ → Float → Centre) → ℕ → Float → Float → Confirmed
+rowThrough down across y centre m =
     let x = toUnsigned 32 centre in andThen (down x y m) (λ cy. andThen (across x (toUnsigned 32 cy) m) (λ cx. Confirmation cx cy))
 
-abbrev columnBy : (ℕ → ℕ → Float → Centre) → (ℕ → ℕ → Float → Centre) → ℕ → Float → Float → Confirmed
-columnBy down across x centre m =
+abbrev columnThrough : (ℕ → ℕ → Float → Centre) → (ℕ → ℕ → Float → Centre) → ℕ → Float → Float → Confirmed
+columnThrough down across x centre m =
     let y = toUnsigned 32 centre in andThen (across x y m) (λ cx. andThen (down (toUnsigned 32 cx) y m) (λ cy. Confirmation cx cy))
 
 -- what a detection is made of: the marker by a transform, and the refinement from one
@@ -166,7 +176,7 @@ module _ (a b : List ℕ) (w h : ℕ) (same : (k : ℕ) → k < w * h → darkBi
 
   -- ---- the search
   down-same : (x y : ℕ) (m : Float) → confirmVertical a w h x y m ≡ confirmVertical b w h x y m
-  unfolding confirmVertical
+  unfolding verticalBy
   down-same x y m = rw (pixel-same x y) (go (darkAt b w h x y) refl)
     where
       go : (d : Bool) → darkAt b w h x y ≡ d → cond d (coreOf (column a w x) h y (limitOf m)) Nowhere ≡ cond d (coreOf (column b w x) h y (limitOf m)) Nowhere
@@ -176,7 +186,7 @@ module _ (a b : List ℕ) (w h : ℕ) (same : (k : ℕ) → k < w * h → darkBi
       go false e = refl
 
   across-same : (x y : ℕ) (m : Float) → confirmHorizontal a w h x y m ≡ confirmHorizontal b w h x y m
-  unfolding confirmHorizontal
+  unfolding horizontalBy
   across-same x y m = rw (pixel-same x y) (go (darkAt b w h x y) refl)
     where
       go : (d : Bool) → darkAt b w h x y ≡ d → cond d (coreOf (row a w y) w x (limitOf m)) Nowhere ≡ cond d (coreOf (row b w y) w x (limitOf m)) Nowhere
@@ -192,19 +202,19 @@ module _ (a b : List ℕ) (w h : ℕ) (same : (k : ℕ) → k < w * h → darkBi
   across-alike = fun-ext (λ x. fun-ext (λ y. fun-ext (λ m. across-same x y m)))
 
   on-row-same : (n : ℕ) (x m : Float) → rowConfirmed a w h n x m ≡ rowConfirmed b w h n x m
-  unfolding rowConfirmed
+  unfolding rowBy
   on-row-same n x m =
-      ap (λ (d : ℕ → ℕ → Float → Centre). rowBy d (confirmHorizontal a w h) n x m) down-alike
-      ∙ ap (λ (c : ℕ → ℕ → Float → Centre). rowBy (confirmVertical b w h) c n x m) across-alike
+      ap (λ (d : ℕ → ℕ → Float → Centre). rowThrough d (confirmHorizontal a w h) n x m) down-alike
+      ∙ ap (λ (c : ℕ → ℕ → Float → Centre). rowThrough (confirmVertical b w h) c n x m) across-alike
 
   on-column-same : (n : ℕ) (x m : Float) → columnConfirmed a w h n x m ≡ columnConfirmed b w h n x m
-  unfolding columnConfirmed
+  unfolding columnBy
   on-column-same n x m =
-      ap (λ (d : ℕ → ℕ → Float → Centre). columnBy d (confirmHorizontal a w h) n x m) down-alike
-      ∙ ap (λ (c : ℕ → ℕ → Float → Centre). columnBy (confirmVertical b w h) c n x m) across-alike
+      ap (λ (d : ℕ → ℕ → Float → Centre). columnThrough d (confirmHorizontal a w h) n x m) down-alike
+      ∙ ap (λ (c : ℕ → ℕ → Float → Centre). columnThrough (confirmVertical b w h) c n x m) across-alike
 
   confirmed-same : (columns : Bool) (n : ℕ) (x m : Float) → confirmedOn a w h columns n x m ≡ confirmedOn b w h columns n x m
-  unfolding confirmedOn
+  unfolding confirmedBy
   confirmed-same columns n x m = rw (on-column-same n x m, on-row-same n x m)
 
   seen-same : (columns : Bool) (n : ℕ) (t : Hit) → seen a w h columns n t ≡ seen b w h columns n t
@@ -213,11 +223,11 @@ module _ (a b : List ℕ) (w h : ℕ) (same : (k : ℕ) → k < w * h → darkBi
   seen-alike : (columns : Bool) (n : ℕ) (ts : List Hit) → flatMap (seen a w h columns n) ts ≡ flatMap (seen b w h columns n) ts
   seen-alike columns n ts = ap (λ (s : Hit → List Sighting). flatMap s ts) (fun-ext (λ t. seen-same columns n t))
 
-  in-row-same : (y : ℕ) → y < h → rowSightings a w h y ≡ rowSightings b w h y
+  in-row-same : (y : ℕ) → y < h → rowSightingsBy coreOf a w h y ≡ rowSightingsBy coreOf b w h y
   in-row-same y l =
       ap (flatMap (seen a w h false y)) (hits-same (row a w y) (row b w y) w (row-alike y l)) ∙ seen-alike false y (lineHits (row b w y) w)
 
-  in-column-same : (x : ℕ) → x < w → columnSightings a w h x ≡ columnSightings b w h x
+  in-column-same : (x : ℕ) → x < w → columnSightingsBy coreOf a w h x ≡ columnSightingsBy coreOf b w h x
   in-column-same x l =
       ap (flatMap (seen a w h true x)) (hits-same (column a w x) (column b w x) h (column-alike x l)) ∙ seen-alike true x (lineHits (column b w x) h)
 
@@ -227,12 +237,12 @@ module _ (a b : List ℕ) (w h : ℕ) (same : (k : ℕ) → k < w * h → darkBi
       (each-range (λ k. f (2 * k) ≡ g (2 * k)) 0 ((n + 1) / 2) (λ k _ l. e (2 * k) (omega arith)))
 
   sightings-same : sightings a w h ≡ sightings b w h
-  unfolding sightings
+  unfolding sightingsBy
   sightings-same =
-      rw (second-same (rowSightings a w h) (rowSightings b w h) h in-row-same, second-same (columnSightings a w h) (columnSightings b w h) w in-column-same)
+      rw (second-same (rowSightingsBy coreOf a w h) (rowSightingsBy coreOf b w h) h in-row-same, second-same (columnSightingsBy coreOf a w h) (columnSightingsBy coreOf b w h) w in-column-same)
 
   pub found-same : found a w h ≡ found b w h
-  unfolding found
+  unfolding foundBy
   found-same = ap (folded (mergeNext maxFinders) (held [])) sightings-same
 
   -- ---- the search for the marker along rows

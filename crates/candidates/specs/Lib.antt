@@ -1,3 +1,4 @@
 pub mod Candidates
 pub mod Detection
 pub mod Passing
+pub mod Published

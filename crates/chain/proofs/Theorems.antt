@@ -1,4 +1,5 @@
--- Where the stages refuse nothing, the only refusal that is left to the detections of the denoised bits is 6; and their bytes are 367. Assumes nothing.
+-- Where the stages refuse nothing, the only refusal that is left to the detections of the denoised bits is 6; their bytes are 367; and where the limit ended
+-- no run of a hit that document 000 confirms, they are those over document 000's finders. Assumes nothing.
 use mathlib.Core.Path.{_≡_}
 use mathlib.Core.Bool.{false, cond}
 use mathlib.Core.List.{List}
@@ -13,7 +14,10 @@ use Rattle.binary.specs.Binary.{bytesOf}
 use Rattle.binary.specs.Refusal.{shortBits}
 use Rattle.finders.specs.Answer.{isOver, findRefusal}
 use Rattle.finders.specs.Search.{found}
+use Rattle.finders.specs.Published.{NoneCut}
 use Rattle.candidates.specs.Candidates.{detectAnswer}
+use Rattle.candidates.specs.Published.{publishedDetect}
+use Rattle.candidates.proofs.Published.{uncut-detect}
 use Rattle.firmware.specs.Firmware.{firmwareBytes, firmwareSize}
 use Rattle.firmware.proofs.Theorems.{answer-bytes}
 use Rattle.stages.specs.Stages.{stagesRefusal}
@@ -34,3 +38,7 @@ module _ (p : List ℕ) (w h s f : ℕ) where
   pub detection-bytes : length (firmwareBytes (chainOf p w h s f .detections)) ≡ firmwareSize
   unfolding chainOf
   detection-bytes = answer-bytes (denoisedPicture p w h s f) w h
+
+  pub uncut-chain : NoneCut (denoisedPicture p w h s f) w h → chainOf p w h s f ≡ publishedDetect (denoisedPicture p w h s f) w h
+  unfolding chainOf
+  uncut-chain u = uncut-detect (denoisedPicture p w h s f) w h u

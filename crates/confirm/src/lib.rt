@@ -1,10 +1,12 @@
 // A hit on a scanned line is confirmed on both axes: the runs about its place have to pass there too.
 ghost use mathlib.Core.Path.{_≡_};
-ghost use Prim.Native.Nat.{_+_, _≤_, _<_, min};
+ghost use Prim.Native.Nat.{_+_, _≤_, _<_};
 ghost use Rattle.binary.specs.Line.{pixel};
-ghost use Rattle.confirm.specs.Confirm.{limitOf, sideBefore, sideAfter, centreOf, coreOf, confirmVertical, confirmHorizontal, rowConfirmed, columnConfirmed, confirmedOn};
-use binary::line::run_back;
-use binary::line::run_on;
+ghost use Rattle.confirm.specs.Confirm.{limitOf, isCut, sideOf, sideBefore, sideAfter, centreOf, coreOf, confirmVertical, confirmHorizontal, rowConfirmed, columnConfirmed, confirmedOn};
+use binary::line::End;
+use binary::line::Run;
+use binary::line::limited_back;
+use binary::line::limited_on;
 use ratio::Match;
 
 // The centre of a core on a line.
@@ -19,10 +21,11 @@ pub enum Confirmed {
     Nothing,
 }
 
-// The runs beyond a core on one side.
+// The runs beyond a core on one side, and whether the limit ended one of them.
 pub struct Side {
     pub light: u16,
     pub dark: u16,
+    pub cut: bool,
 }
 
 // The number of pixels after which a run stops.
@@ -32,36 +35,45 @@ fn limit_of(module: f32) -> u64
     float::to_u32(module * 5.0) as u64 + 4
 }
 
-fn capped(limit: u64, n: u16) -> u16
-    ensures { λ r. ⌜ r ≡ min limit n ⌝ }
-    ensures { λ r. ⌜ r ≤ n ⌝ }
+// Whether the limit ended a run.
+fn is_cut(end: End) -> bool
+    ensures { λ r. ⌜ r ≡ isCut end ⌝ }
 {
-    if limit <= n as u64 { limit as u16 } else { n }
+    match end {
+        End::Change => false,
+        End::Edge => false,
+        End::Limit => true,
+    }
+}
+
+fn side_of(light: Run, dark: Run) -> Side
+    ensures { λ r. ⌜ r ≡ sideOf light dark ⌝ }
+{
+    let light_end = light.end;
+    let dark_end = dark.end;
+    let cut = is_cut(light_end) | is_cut(dark_end);
+    Side {
+        light: light.count,
+        dark: dark.count,
+        cut: cut,
+    }
 }
 
 fn side_before(bits: &[u8], start: u32, stride: u32, from: u16, limit: u64) -> Side
     ensures { λ r. ⌜ r ≡ sideBefore (pixel (now (bits .entry)) start stride) limit from ⌝ }
 {
-    let light = run_back(bits, start, stride, from, capped(limit, from), false);
-    let next = from - light;
-    let dark = run_back(bits, start, stride, next, capped(limit, next), true);
-    Side {
-        light: light,
-        dark: dark,
-    }
+    let light = limited_back(bits, start, stride, from, limit, false);
+    let dark = limited_back(bits, start, stride, from - light.count, limit, true);
+    side_of(light, dark)
 }
 
 fn side_after(bits: &[u8], start: u32, stride: u32, len: u16, from: u16, limit: u64) -> Side
     requires { ⌜ from ≤ len ⌝ }
     ensures { λ r. ⌜ r ≡ sideAfter (pixel (now (bits .entry)) start stride) len limit from ⌝ }
 {
-    let light = run_on(bits, start, stride, from, capped(limit, len - from), false);
-    let next = from + light;
-    let dark = run_on(bits, start, stride, next, capped(limit, len - next), true);
-    Side {
-        light: light,
-        dark: dark,
-    }
+    let light = limited_on(bits, start, stride, len, from, limit, false);
+    let dark = limited_on(bits, start, stride, len, from + light.count, limit, true);
+    side_of(light, dark)
 }
 
 // The centre of a core of so many pixels that starts at pixel `top`, where the runs pass.
@@ -74,25 +86,25 @@ fn centre_of(a: Side, core: u16, b: Side, top: u16) -> Centre
     }
 }
 
-// The centre of the core about the dark pixel i of a line.
+// The centre of the core about the dark pixel i of a line, where the runs pass and the limit ended none.
 fn core_on(bits: &[u8], start: u32, stride: u32, len: u16, i: u16, module: f32) -> Centre
     requires { ⌜ i < len ⌝ }
     ensures { λ r. ⌜ r ≡ coreOf (pixel (now (bits .entry)) start stride) len i (limitOf «module») ⌝ }
 {
     let limit = limit_of(module);
-    let up = run_back(bits, start, stride, i, capped(limit, i), true);
-    let down = run_on(
-        bits,
-        start,
-        stride,
-        i + 1,
-        capped(limit, len - (i + 1)),
-        true,
-    );
-    let top = i - up;
+    let up = limited_back(bits, start, stride, i, limit, true);
+    let down = limited_on(bits, start, stride, len, i + 1, limit, true);
+    let core = up.count + down.count + 1;
+    let top = i - up.count;
     let a = side_before(bits, start, stride, top, limit);
-    let b = side_after(bits, start, stride, len, i + 1 + down, limit);
-    centre_of(a, up + down + 1, b, top)
+    let b = side_after(bits, start, stride, len, i + 1 + down.count, limit);
+    let up_end = up.end;
+    let down_end = down.end;
+    let cut = is_cut(up_end) | is_cut(down_end) | a.cut | b.cut;
+    if !cut {
+        return centre_of(a, core, b, top);
+    }
+    Centre::Nowhere
 }
 
 // The finder's y on column x, about row y.

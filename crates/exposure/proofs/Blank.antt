@@ -12,10 +12,10 @@ use Rattle.binary.specs.Binary.{bit, darkBit, darkAt}
 use Rattle.binary.specs.Line.{row, column}
 use Rattle.image.specs.Denoise.{inside, votes, denoisedAt}
 use Rattle.confirm.specs.declared.Confirmed.the-variants.{Nothing}
-use Rattle.confirm.specs.Confirm.{confirmVertical, confirmHorizontal, rowConfirmed, columnConfirmed, confirmedOn}
+use Rattle.confirm.specs.Confirm.{coreOf, verticalBy, horizontalBy, rowBy, columnBy, confirmedBy, confirmedOn}
 use Rattle.finders.specs.Held.{held}
 use Rattle.finders.specs.Hits.{Hit, lineHits}
-use Rattle.finders.specs.Search.{everySecond, seen, rowSightings, columnSightings, sightings, found}
+use Rattle.finders.specs.Search.{everySecond, seen, rowSightingsBy, columnSightingsBy, sightingsBy, foundBy, sightings, found}
 use Rattle.finders.specs.Rank as rank
 use Rattle.finders.specs.Answer.{findersOf}
 use Rattle.ranking.specs.Ranking.{enumerated, ofRank, best, ranked}
@@ -60,7 +60,7 @@ flatMap-nothing f h (x ∷ xs) = rw (h x, flatMap-nothing f h xs)
 
 module _ (b : List ℕ) (w h : ℕ) (e : Each (λ v. v ≡ 0) b) where
   not-confirmed : (columns : Bool) (n : ℕ) (centre m : Float) → confirmedOn b w h columns n centre m ≡ Nothing
-  unfolding confirmedOn rowConfirmed columnConfirmed confirmVertical confirmHorizontal
+  unfolding confirmedBy rowBy columnBy verticalBy horizontalBy
   not-confirmed true n centre m = simp (light-pixel b w h e)
   not-confirmed false n centre m = simp (light-pixel b w h e)
 
@@ -68,14 +68,14 @@ module _ (b : List ℕ) (w h : ℕ) (e : Each (λ v. v ≡ 0) b) where
   not-seen columns n t = rw (not-confirmed columns n (t .centre) (t .pitch))
 
   no-sighting : sightings b w h ≡ []
-  unfolding sightings
+  unfolding sightingsBy
   no-sighting =
-      let rows : everySecond (rowSightings b w h) h ≡ [] = flatMap-nothing _ (λ k. flatMap-nothing (seen b w h false (2 * k)) (not-seen false (2 * k)) (lineHits (row b w (2 * k)) w)) _ in
-      let columns : everySecond (columnSightings b w h) w ≡ [] = flatMap-nothing _ (λ k. flatMap-nothing (seen b w h true (2 * k)) (not-seen true (2 * k)) (lineHits (column b w (2 * k)) h)) _ in
+      let rows : everySecond (rowSightingsBy coreOf b w h) h ≡ [] = flatMap-nothing _ (λ k. flatMap-nothing (seen b w h false (2 * k)) (not-seen false (2 * k)) (lineHits (row b w (2 * k)) w)) _ in
+      let columns : everySecond (columnSightingsBy coreOf b w h) w ≡ [] = flatMap-nothing _ (λ k. flatMap-nothing (seen b w h true (2 * k)) (not-seen true (2 * k)) (lineHits (column b w (2 * k)) h)) _ in
       rw (rows, columns)
 
   pub none-found : found b w h ≡ held []
-  unfolding found folded
+  unfolding foundBy folded
   none-found = rw no-sighting
 
   pub no-detection : detectionsOf b w h (findersOf b w h) ≡ []

@@ -14,13 +14,13 @@ use Rattle.binary.specs.Line.{pixel}
 use Rattle.ratio.specs.Ratio.{matchOf}
 use Rattle.ratio.specs.declared.Match.{Match}
 use Rattle.ratio.specs.declared.Match.the-variants as match
-use Rattle.confirm.specs.Confirm.{confirmedOn}
+use Rattle.confirm.specs.Confirm.{coreOf, confirmedOn}
 use Rattle.confirm.specs.declared.Confirmed.{Confirmed}
 use Rattle.confirm.specs.declared.Confirmed.the-variants.{Point, Nothing}
 use Rattle.finders.specs.declared.search.Line.{Line}
 use Rattle.finders.specs.Hits.{Hit, runs, hitIf, window, hits, lineHits}
 use Rattle.finders.specs.Held.{Held, held, mergeNext}
-use Rattle.finders.specs.Search.{maxFinders, sighting, seen, everySecond, rowSightings, columnSightings, sightings, found}
+use Rattle.finders.specs.Search.{maxFinders, sighting, seen, everySecond, rowSightingsBy, columnSightingsBy, sightingsBy, foundBy, found}
 use Rattle.finders.specs.Inner.{lineMost, axisMost, Fine, lineAt, lineCount, lineSightings, scanned, scannedAt, axis}
 use Rattle.finders.proofs.Folding.{folded-flatMap}
 use Rattle.finders.proofs.Tables.{fine-mono, folded-fine}
@@ -117,17 +117,17 @@ module _ (bits : List ℕ) (width height : ℕ) where
     sighted-later e = rw (is, ← z, e)
 
   -- ---- rows, then columns
-  rows-are : (s : Held) → folded (mergeNext maxFinders) s (everySecond (rowSightings bits width height) height) ≡ axis bits width height false s
+  rows-are : (s : Held) → folded (mergeNext maxFinders) s (everySecond (rowSightingsBy coreOf bits width height) height) ≡ axis bits width height false s
   unfolding axis
-  rows-are s = folded-flatMap (mergeNext maxFinders) (λ k. rowSightings bits width height (2 * k)) s (range 0 ((height + 1) / 2))
+  rows-are s = folded-flatMap (mergeNext maxFinders) (λ k. rowSightingsBy coreOf bits width height (2 * k)) s (range 0 ((height + 1) / 2))
 
-  columns-are : (s : Held) → folded (mergeNext maxFinders) s (everySecond (columnSightings bits width height) width) ≡ axis bits width height true s
+  columns-are : (s : Held) → folded (mergeNext maxFinders) s (everySecond (columnSightingsBy coreOf bits width height) width) ≡ axis bits width height true s
   unfolding axis
-  columns-are s = folded-flatMap (mergeNext maxFinders) (λ k. columnSightings bits width height (2 * k)) s (range 0 ((width + 1) / 2))
+  columns-are s = folded-flatMap (mergeNext maxFinders) (λ k. columnSightingsBy coreOf bits width height (2 * k)) s (range 0 ((width + 1) / 2))
 
   pub found-is : found bits width height ≡ axis bits width height true (axis bits width height false (held []))
-  unfolding found sightings
+  unfolding foundBy sightingsBy
   found-is =
-      folded-append (mergeNext maxFinders) (held []) (everySecond (rowSightings bits width height) height) (everySecond (columnSightings bits width height) width)
-      ∙ columns-are (folded (mergeNext maxFinders) (held []) (everySecond (rowSightings bits width height) height))
+      folded-append (mergeNext maxFinders) (held []) (everySecond (rowSightingsBy coreOf bits width height) height) (everySecond (columnSightingsBy coreOf bits width height) width)
+      ∙ columns-are (folded (mergeNext maxFinders) (held []) (everySecond (rowSightingsBy coreOf bits width height) height))
       ∙ ap (axis bits width height true) (rows-are (held []))

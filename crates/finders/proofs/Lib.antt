@@ -6,3 +6,4 @@ pub mod Axes
 pub mod Ranks
 pub mod Outcomes
 pub mod Theorems
+pub mod Published

@@ -15,7 +15,7 @@ use Rattle.lcr_core.specs.Outcome.{zeroSide, largeSide}
 use Rattle.binary.specs.Refusal.{shortBits, bitsRefusal}
 use Rattle.geometry.specs.declared.Finder.{Finder}
 use Rattle.finders.specs.Held.{Sighting, Held, held, over, within, join, place, merge, mergeNext}
-use Rattle.finders.specs.Search.{maxFinders, sightings, found}
+use Rattle.finders.specs.Search.{maxFinders, sightings, foundBy, found}
 use Rattle.finders.specs.Rank.{stays, insert, ranked}
 use Rattle.finders.specs.Answer.{isOver, findRefusal, answerOf}
 
@@ -97,7 +97,7 @@ is-over (held fs) e = absurd (true≢false (sym e))
 
 -- of a picture: `find_finders` answers 6 only where it is not refused by 1, 2 or 4, and a confirmed hit falls within no held finder while 128 are held
 pub six-only-if : (bits : List ℕ) (w h : ℕ) → answerOf bits w h .refusal ≡ 6 → (bitsRefusal (length bits) w h ≡ 0) × Overflows maxFinders [] (sightings bits w h)
-unfolding answerOf findRefusal bitsRefusal found
+unfolding answerOf findRefusal bitsRefusal foundBy
 six-only-if bits w h e = go (zeroSide w h) (largeSide w h) (shortBits (length bits) w h) (isOver (found bits w h)) refl e
   where
     go : (z l s o : Bool) → isOver (found bits w h) ≡ o → first z l s (cond o 6 0) ≡ 6
@@ -110,7 +110,7 @@ six-only-if bits w h e = go (zeroSide w h) (largeSide w h) (shortBits (length bi
 
 -- and wherever this is so
 pub six-if : (bits : List ℕ) (w h : ℕ) → bitsRefusal (length bits) w h ≡ 0 → Overflows maxFinders [] (sightings bits w h) → answerOf bits w h .refusal ≡ 6
-unfolding answerOf findRefusal bitsRefusal found
+unfolding answerOf findRefusal bitsRefusal foundBy
 six-if bits w h e o = go (zeroSide w h) (largeSide w h) (shortBits (length bits) w h) (found bits w h) (over-if maxFinders [] (sightings bits w h) (omega arith) o) e
   where
     go : (z l s : Bool) (f : Held) → f ≡ over → first z l s 0 ≡ 0 → first z l s (cond (isOver f) 6 0) ≡ 6

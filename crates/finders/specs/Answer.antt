@@ -34,17 +34,24 @@ abbrev pub heldList : Held → List Finder
 heldList over = []
 heldList (held fs) = fs
 
--- 1, 2, 4 and 6, in this order
+-- 1, 2, 4 and 6, in this order, where a search of a picture of len bytes ends with s
+abbrev pub refusalAfter : ℕ → ℕ → ℕ → Held → ℕ
+refusalAfter len width height s = firstOf (bitsChecks len width height ++ (record { refuses = isOver s; outcome = FullTable } ∷ []))
+
 unfoldable pub findRefusal : List ℕ → ℕ → ℕ → ℕ
-findRefusal bits width height =
-    firstOf (bitsChecks (length bits) width height ++ (record { refuses = isOver (found bits width height); outcome = FullTable } ∷ []))
+findRefusal bits width height = refusalAfter (length bits) width height (found bits width height)
 
 -- the finders of a picture: those that are held at the end, most confirmed first
+abbrev pub findersAfter : Held → List Finder
+findersAfter s = ranked (heldList s)
+
 abbrev pub findersOf : List ℕ → ℕ → ℕ → List Finder
-findersOf bits width height = ranked (heldList (found bits width height))
+findersOf bits width height = findersAfter (found bits width height)
+
+-- a refusal's number and no finder, or 0 and the finders
+abbrev pub answerAfter : ℕ → List Finder → Found
+answerAfter n fs = record { refusal = n; finders = tableOf (unless n [] fs) }
 
 -- `find_finders`
 unfoldable pub answerOf : List ℕ → ℕ → ℕ → Found
-answerOf bits width height =
-    let n = findRefusal bits width height in
-    record { refusal = n; finders = tableOf (unless n [] (findersOf bits width height)) }
+answerOf bits width height = answerAfter (findRefusal bits width height) (findersOf bits width height)

@@ -4,3 +4,4 @@ pub mod Hits
 pub mod Held
 pub mod Rank
 pub mod Inner
+pub mod Published

@@ -1,4 +1,7 @@
-// Records 32 to 34 and 36: the finder search, the stored list and the five-run test.
+// Records 32 to 34, 36 and 37: the finder search, the stored list, the five-run test and how a run ended.
+use binary::line;
+use binary::line::End;
+use binary::line::Run;
 use ratio::Match;
 use record::slices;
 use record::values;
@@ -56,12 +59,37 @@ fn matches_finder(p: &[u8], out: &mut [u8]) -> usize {
     5
 }
 
+// The run forwards from a pixel, or the one backwards before it, of a line that starts with the rest's first pixel.
+fn limited_run(p: &[u8]) -> Run {
+    let bits = slices::rest(p, 10);
+    let from = little_endian::get16(p, 2);
+    let limit = little_endian::get32(p, 4) as u64;
+    let want = little_endian::get8(p, 9) == 1;
+    if little_endian::get8(p, 8) == 1 {
+        return line::limited_back(bits, 0, 1, from, limit, want);
+    }
+    line::limited_on(bits, 0, 1, little_endian::get16(p, 0), from, limit, want)
+}
+
+fn run_end(p: &[u8], out: &mut [u8]) -> usize {
+    let r = limited_run(p);
+    little_endian::put16(out, 0, r.count);
+    let end = r.end;
+    match end {
+        End::Change => little_endian::put8(out, 2, 0),
+        End::Edge => little_endian::put8(out, 2, 1),
+        End::Limit => little_endian::put8(out, 2, 2),
+    }
+    3
+}
+
 pub fn answer(function: u8, p: &[u8], out: &mut [u8]) -> usize {
     match function {
         32 => find_finders(p, out),
         33 => read_list(p, out),
         34 => write_list(p, out),
         36 => matches_finder(p, out),
+        37 => run_end(p, out),
         _ => 0,
     }
 }

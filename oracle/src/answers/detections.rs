@@ -1,9 +1,10 @@
 //! The alignment marker, and detections of lent finders and of pictures.
 
 use super::{Source, finders_of};
+use crate::coverage;
 use crate::differences::*;
 use crate::record::{Bytes, Fields};
-use crate::rules::{bad_version, bits_refusal, refusal};
+use crate::rules::{bad_version, bits_refusal, detection_bytes, refusal};
 use lcr_core::Version;
 use lcr_decode::detect::*;
 use lcr_decode::image::{Binary, binary_of};
@@ -105,6 +106,17 @@ fn detections_of(bin: &Binary, list: &[Finder]) -> (Vec<Detection>, Source) {
     asked(slow, || candidates_from(bin, list.to_vec()), own)
 }
 
+/// The detections of a picture whose finders are known: those of the list where it is not the Rust's.
+pub fn detections_in(bin: &Binary, list: &[Finder], source: Source) -> Vec<Detection> {
+    let rust = detect_candidates(bin);
+    if source != Source::Cut {
+        return rust;
+    }
+    let found = detections_of(bin, list).0;
+    coverage::note_detections(detection_bytes(&found) == detection_bytes(&rust));
+    found
+}
+
 pub fn candidates_answer(function: u8, f: &mut Fields, out: &mut Bytes) -> Source {
     let (width, height) = (f.u32(), f.u32());
     let count = if function == 80 { f.u32() } else { 0 };
@@ -121,13 +133,16 @@ pub fn candidates_answer(function: u8, f: &mut Fields, out: &mut Bytes) -> Sourc
         out.u8(0).detections(&found);
         return source;
     }
-    if finders_of(&bin).is_none() {
+    let (finders, source) = finders_of(&bin);
+    let Some(list) = finders else {
         out.u8(6).u8(0);
-        return Source::Rust;
-    }
-    match function {
-        81 => out.u8(0).detections(&detect_candidates(&bin)),
-        _ => out.u8(0).detections(detect(&bin).as_slice()),
+        return source;
     };
-    Source::Rust
+    let found = match (function, source) {
+        (81, _) => detections_in(&bin, &list, source),
+        (_, Source::Cut) => detections_in(&bin, &list, source).into_iter().take(1).collect(),
+        _ => detect(&bin).into_iter().collect(),
+    };
+    out.u8(0).detections(&found);
+    source
 }

@@ -1,10 +1,12 @@
 //! Gray conversion, black and white conversion, denoising, the finder search, the stored
 //! list and the whole chain.
 
-use super::Source;
+use super::{Source, detections_in};
+use crate::coverage;
 use crate::record::{Bytes, Fields, lent};
 use crate::rules::*;
-use lcr_decode::detect::{Detection, Finder, all_held, detect_candidates, find_finders};
+use crate::search::{answer_of, held, hits, staying};
+use lcr_decode::detect::{Detection, Finder, all_held, find_finders};
 use lcr_decode::image::{Binary, ImageView, PixelFormat, binarize, binary_of, bits_of};
 
 fn format_of(format: u8) -> PixelFormat {
@@ -73,15 +75,23 @@ pub fn answer(function: u8, f: &mut Fields, out: &mut Bytes) -> Source {
     Source::Rust
 }
 
-/// The finders of a picture, or none where a 129th is added.
-pub fn finders_of(bin: &Binary) -> Option<Vec<Finder>> {
-    let mut held = all_held(bin);
-    let full = held.len() > 128;
-    let found = find_finders(bin);
-    held.retain(|f| f.confirmations >= 2);
-    held.sort_by_key(|f| core::cmp::Reverse(f.confirmations));
-    assert_eq!(held, found, "the list that the search keeps");
-    (!full).then_some(found)
+/// The finders of a picture, or none where a 129th is added: the Rust's, unless a hit that it confirms is cut.
+pub fn finders_of(bin: &Binary) -> (Option<Vec<Finder>>, Source) {
+    let (hits, added, found) = (hits(bin), all_held(bin), find_finders(bin));
+    assert_eq!(bytes_of(&held(&hits)), bytes_of(&added), "the hits that the search confirms");
+    let full = added.len() > 128;
+    assert_eq!(bytes_of(&staying(added)), bytes_of(&found), "the list that the search keeps");
+    coverage::note_search(&hits);
+    if hits.iter().any(|h| h.dropped()) {
+        return (answer_of(hits.iter().filter(|h| !h.dropped())), Source::Cut);
+    }
+    ((!full).then_some(found), Source::Rust)
+}
+
+fn bytes_of(list: &[Finder]) -> Vec<u8> {
+    let mut out = Bytes::default();
+    out.finders(list);
+    out.0
 }
 
 pub fn finders_answer(function: u8, f: &mut Fields, out: &mut Bytes) -> Source {
@@ -89,13 +99,17 @@ pub fn finders_answer(function: u8, f: &mut Fields, out: &mut Bytes) -> Source {
         32 => {
             let (width, height) = (f.u32(), f.u32());
             let bits = f.rest();
-            match bits_refusal(width, height, bits.len()) {
-                0 => match finders_of(&binary_of(width, height, bits)) {
-                    Some(list) => out.u8(0).u8(list.len() as u8).finders(&list),
-                    None => out.u8(6).u8(0),
-                },
-                number => out.u8(number).u8(0),
+            let number = bits_refusal(width, height, bits.len());
+            if number != 0 {
+                out.u8(number).u8(0);
+                return Source::Rust;
+            }
+            let (found, source) = finders_of(&binary_of(width, height, bits));
+            match found {
+                Some(list) => out.u8(0).u8(list.len() as u8).finders(&list),
+                None => out.u8(6).u8(0),
             };
+            return source;
         }
         33 => {
             match read_list(f.rest()) {
@@ -128,6 +142,7 @@ pub fn finders_answer(function: u8, f: &mut Fields, out: &mut Bytes) -> Source {
 /// What the whole chain leaves: its number, its detections, and the eight slices.
 pub struct Chained {
     pub number: u8,
+    pub source: Source,
     pub detections: Vec<Detection>,
     /// Gray, bits, denoised, means, least, greatest, edge marks, near marks.
     pub slices: [Vec<u8>; 8],
@@ -151,7 +166,7 @@ pub fn chain_of(
     let [bad, few] = picture_checks(picture.len(), width, height, stride, format);
     let number = refusal(&[zero_side(width, height), large_side(width, height), bad, few, (5, short)]);
     if number != 0 {
-        return Chained { number, detections: Vec::new(), slices };
+        return Chained { number, source: Source::Rust, detections: Vec::new(), slices };
     }
     let view = ImageView::new(picture, width, height, stride, format_of(format)).unwrap();
     let gray = view.gray_buffer();
@@ -163,10 +178,10 @@ pub fn chain_of(
     for (slice, values) in slices[3..].iter_mut().zip(block_values(&gray, width, height)) {
         write(slice, &values);
     }
-    match finders_of(&clean) {
-        Some(_) => Chained { number: 0, detections: detect_candidates(&clean), slices },
-        None => Chained { number: 6, detections: Vec::new(), slices },
-    }
+    let (found, source) = finders_of(&clean);
+    let number = if found.is_some() { 0 } else { 6 };
+    let detections = found.map_or(Vec::new(), |list| detections_in(&clean, &list, source));
+    Chained { number, source, detections, slices }
 }
 
 pub fn chain_answer(f: &mut Fields, out: &mut Bytes) -> Source {
@@ -177,5 +192,5 @@ pub fn chain_answer(f: &mut Fields, out: &mut Bytes) -> Source {
     done.slices.iter().for_each(|s| {
         out.slice(s);
     });
-    Source::Rust
+    done.source
 }

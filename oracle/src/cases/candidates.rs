@@ -2,7 +2,7 @@
 
 use super::finders::{any_finder, search_picture};
 use super::scenes::clear_plate;
-use super::{Reach, bit_picture};
+use super::{Reach, bit_picture, false_plate};
 use crate::record::Record;
 use crate::rng::Rng;
 use lcr_decode::detect::{Finder, find_finders};
@@ -12,8 +12,14 @@ pub fn case(function: u8, i: u64, rng: &mut Rng, reach: Reach) -> Record {
     if function == 80 {
         return lent_case(i, rng, reach);
     }
-    let ((width, height), bits) =
-        if i % 3 == 0 { search_picture(i / 3, rng, reach) } else { plate_bits(i, rng, reach) };
+    let ((width, height), bits) = match i % 12 {
+        0 | 3 | 6 | 9 => search_picture(i / 3, rng, reach),
+        1 => {
+            let gray = false_plate(rng, 1, reach == Reach::Full);
+            ((gray.width, gray.height), gray.bits(128))
+        }
+        _ => plate_bits(i, rng, reach),
+    };
     Record::new(function).with(|b| {
         b.u32(width).u32(height).raw(&bits);
     })

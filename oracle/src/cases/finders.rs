@@ -1,5 +1,6 @@
 //! The finder search and the stored list.
 
+use super::walls::{full_table, smallest, walls};
 use super::{Reach, about, bit_picture, resized, scenes};
 use crate::picture::{Gray, finder_grid, ringed};
 use crate::record::Record;
@@ -20,20 +21,28 @@ pub fn case(function: u8, i: u64, rng: &mut Rng, reach: Reach) -> Record {
     }
 }
 
-/// A picture for the search, also with as many finders as the table holds.
+/// A picture for the search, also with as many finders as the table holds. The first are the smallest with a cut hit.
 pub fn search_picture(i: u64, rng: &mut Rng, reach: Reach) -> ((u32, u32), Vec<u8>) {
+    if let Some(gray) = smallest(i) {
+        return ((gray.width, gray.height), gray.bits(128));
+    }
     let gray = match i % 8 {
         0 if i % 32 == 0 => {
             let count = rng.pick(&[1, 2, 3, 126, 127, 128, 128, 129, 129, 130, 200]);
             finder_grid(count, 12, rng.whole(1, 2), rng.whole(1, 3))
         }
         0 if i % 128 == 8 => scenes::longest(rng),
-        1 | 2 => {
+        0 if i % 128 == 16 => full_table(rng, 1),
+        1 => {
             let across = scenes::runs(rng);
             let down = if rng.one_in(2) { across } else { scenes::runs(rng) };
             ringed(across, down, rng.whole(1, 3))
         }
-        3 if i == 3 => ringed([3, 3, 9, 3, 3], [3, 3, 9, 3, 3], 0),
+        2 => {
+            let least = rng.pick(&[1, 1, 2]);
+            walls(rng, least, reach == Reach::Full)
+        }
+        3 if i == 19 => ringed([3, 3, 9, 3, 3], [3, 3, 9, 3, 3], 0),
         3 | 4 => {
             let (w, h) = (rng.whole(14, 60), rng.whole(14, 60));
             scenes::finders(rng, w, h)

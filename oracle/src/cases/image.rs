@@ -1,7 +1,7 @@
 //! Gray conversion, black and white conversion, denoising, and the whole chain.
 
 use super::scenes::{clear_plate, longest};
-use super::{Reach, SIDES, about, resized, scene};
+use super::{Reach, SIDES, about, false_plate, full_table, resized, scene, walls};
 use crate::picture::{Gray, finder_grid};
 use crate::record::{LONGEST, Record};
 use crate::rng::Rng;
@@ -213,6 +213,10 @@ pub fn chain_case(i: u64, rng: &mut Rng, limit: usize, most: usize) -> ChainCase
         _ if grid => finder_grid([129, 128, 127, 130][(i / 128 % 4) as usize], 12, 2, rng.whole(3, 5)),
         _ if i % 64 == 10 => few_finders(rng),
         _ if i % 256 == 4 => longest(rng),
+        _ if i % 256 == 66 => full_table(rng, 2),
+        _ if i % 32 == 6 => walls(rng, 2, limit > 2_000),
+        // Fewer in the stored sample, which has the small limits.
+        _ if i % 32 == 22 || i % 16 == 14 && limit > 2_000 => false_plate(rng, 2, limit > 2_000),
         1 | 3 if limit < 2_000 => clear_plate(rng, 1, 2.4),
         1 | 3 => clear_plate(rng, limit as u32 / 9_000 + 1, 3.5),
         _ => scene(rng, limit),
@@ -241,10 +245,13 @@ pub fn exposed(i: u64, rng: &mut Rng, limit: usize) -> Gray {
         0 => Gray::random(rng, 1, 1),
         1 => Gray::filled(rng.whole(1, 99), rng.whole(1, 99), rng.byte()),
         2..=5 => return uneven(rng),
-        6 => finder_grid([129, 128, 127, 130][(i / 16 % 4) as usize], 12, 2, 2),
+        6 if i % 32 == 6 => finder_grid([129, 128, 127, 130][(i / 32 % 4) as usize], 12, 2, 2),
+        6 => full_table(rng, 2),
         7 => few_finders(rng),
         8 => longest(rng),
         9..=12 => clear_plate(rng, limit as u32 / 9_000 + 1, 3.5),
+        13 if rng.one_in(2) => walls(rng, 2, limit > 10_000),
+        13 => false_plate(rng, 2, limit > 10_000),
         _ => scene(rng, limit),
     };
     let spread = rng.pick(&[0, 24, 25, 26, 60, 60, 120, 120, 200, 254]);

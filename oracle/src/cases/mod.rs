@@ -4,12 +4,14 @@
 mod alignment;
 mod candidates;
 mod core;
+mod ends;
 mod finders;
 mod geometry;
 mod image;
 mod runs;
 mod scenes;
 mod unanswered;
+mod walls;
 
 use crate::record::Record;
 use crate::rng::Rng;
@@ -17,6 +19,7 @@ use crate::rng::Rng;
 pub use image::{ChainCase, chain_case, exposed, exposure_case};
 pub use scenes::scene;
 pub use unanswered::{is_unanswered, unanswered};
+pub use walls::{false_plate, full_table, walls};
 
 /// How far a run reaches.
 #[derive(Copy, Clone, PartialEq, Eq)]
@@ -28,7 +31,7 @@ pub enum Reach {
 }
 
 impl Reach {
-    /// Cases of a function: over a million in all, beside the five runs of 36.
+    /// Cases of a function: a million and a half in all, beside the five runs of 36.
     pub fn cases(self, function: u8) -> u64 {
         if self == Reach::Sample {
             return 1024;
@@ -42,6 +45,7 @@ impl Reach {
             32 => 12_000,
             33 | 34 => 30_000,
             36 => runs::ALL + 10_400_000,
+            37 => ends::ALL + 250_000,
             48 | 49 => 30_000,
             50 | 51 => 40_000,
             52 => 90_000,
@@ -73,6 +77,7 @@ pub fn case(function: u8, i: u64, rng: &mut Rng, reach: Reach) -> Record {
         16..=18 => image::case(function, i, rng, reach),
         32..=34 => finders::case(function, i, rng, reach),
         36 => runs::case(i, rng, reach),
+        37 => ends::case(i, rng, reach),
         48..=58 => geometry::case(function, i, rng),
         64..=67 => alignment::case(function, i, rng, reach),
         80..=82 => candidates::case(function, i, rng, reach),

@@ -96,12 +96,8 @@ fn two_plates(rng: &mut Rng, limit: usize) -> Gray {
     let (a, b) = (plate(rng, limit / 2), plate(rng, limit / 2));
     let (width, height) = (a.width + b.width, a.height.max(b.height));
     let mut out = Gray::filled(width, height, 240);
-    for (part, left) in [(&a, 0), (&b, a.width)] {
-        for (i, v) in part.pixels.iter().enumerate() {
-            let (x, y) = (i as u32 % part.width + left, i as u32 / part.width);
-            out.pixels[(y * width + x) as usize] = *v;
-        }
-    }
+    out.paste(&a, 0, 0);
+    out.paste(&b, a.width, 0);
     out
 }
 

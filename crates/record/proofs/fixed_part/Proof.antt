@@ -63,82 +63,86 @@ returns-14 c = listed _ 36 _ (c .match .keys14) refl
 
 returns-15 : tie.Need-returns-15
 unfolding fixedPart lookup
-returns-15 c = listed _ 48 _ (c .match .keys15) refl
+returns-15 c = listed _ 37 _ (c .match .keys15) refl
 
 returns-16 : tie.Need-returns-16
 unfolding fixedPart lookup
-returns-16 c = listed _ 49 _ (c .match .keys16) refl
+returns-16 c = listed _ 48 _ (c .match .keys16) refl
 
 returns-17 : tie.Need-returns-17
 unfolding fixedPart lookup
-returns-17 c = listed _ 50 _ (c .match .keys17) refl
+returns-17 c = listed _ 49 _ (c .match .keys17) refl
 
 returns-18 : tie.Need-returns-18
 unfolding fixedPart lookup
-returns-18 c = listed _ 51 _ (c .match .keys18) refl
+returns-18 c = listed _ 50 _ (c .match .keys18) refl
 
 returns-19 : tie.Need-returns-19
 unfolding fixedPart lookup
-returns-19 c = listed _ 52 _ (c .match .keys19) refl
+returns-19 c = listed _ 51 _ (c .match .keys19) refl
 
 returns-20 : tie.Need-returns-20
 unfolding fixedPart lookup
-returns-20 c = listed _ 53 _ (c .match .keys20) refl
+returns-20 c = listed _ 52 _ (c .match .keys20) refl
 
 returns-21 : tie.Need-returns-21
 unfolding fixedPart lookup
-returns-21 c = listed _ 54 _ (c .match .keys21) refl
+returns-21 c = listed _ 53 _ (c .match .keys21) refl
 
 returns-22 : tie.Need-returns-22
 unfolding fixedPart lookup
-returns-22 c = listed _ 55 _ (c .match .keys22) refl
+returns-22 c = listed _ 54 _ (c .match .keys22) refl
 
 returns-23 : tie.Need-returns-23
 unfolding fixedPart lookup
-returns-23 c = listed _ 56 _ (c .match .keys23) refl
+returns-23 c = listed _ 55 _ (c .match .keys23) refl
 
 returns-24 : tie.Need-returns-24
 unfolding fixedPart lookup
-returns-24 c = listed _ 57 _ (c .match .keys24) refl
+returns-24 c = listed _ 56 _ (c .match .keys24) refl
 
 returns-25 : tie.Need-returns-25
 unfolding fixedPart lookup
-returns-25 c = listed _ 58 _ (c .match .keys25) refl
+returns-25 c = listed _ 57 _ (c .match .keys25) refl
 
 returns-26 : tie.Need-returns-26
 unfolding fixedPart lookup
-returns-26 c = listed _ 64 _ (c .match .keys26) refl
+returns-26 c = listed _ 58 _ (c .match .keys26) refl
 
 returns-27 : tie.Need-returns-27
 unfolding fixedPart lookup
-returns-27 c = listed _ 65 _ (c .match .keys27) refl
+returns-27 c = listed _ 64 _ (c .match .keys27) refl
 
 returns-28 : tie.Need-returns-28
 unfolding fixedPart lookup
-returns-28 c = listed _ 66 _ (c .match .keys28) refl
+returns-28 c = listed _ 65 _ (c .match .keys28) refl
 
 returns-29 : tie.Need-returns-29
 unfolding fixedPart lookup
-returns-29 c = listed _ 67 _ (c .match .keys29) refl
+returns-29 c = listed _ 66 _ (c .match .keys29) refl
 
 returns-30 : tie.Need-returns-30
 unfolding fixedPart lookup
-returns-30 c = listed _ 80 _ (c .match .keys30) refl
+returns-30 c = listed _ 67 _ (c .match .keys30) refl
 
 returns-31 : tie.Need-returns-31
 unfolding fixedPart lookup
-returns-31 c = listed _ 81 _ (c .match .keys31) refl
+returns-31 c = listed _ 80 _ (c .match .keys31) refl
 
 returns-32 : tie.Need-returns-32
 unfolding fixedPart lookup
-returns-32 c = listed _ 82 _ (c .match .keys32) refl
+returns-32 c = listed _ 81 _ (c .match .keys32) refl
 
 returns-33 : tie.Need-returns-33
 unfolding fixedPart lookup
-returns-33 c = listed _ 96 _ (c .match .keys33) refl
+returns-33 c = listed _ 82 _ (c .match .keys33) refl
 
 returns-34 : tie.Need-returns-34
-returns-34 c = not-listed _ (c .match .rest)
+unfolding fixedPart lookup
+returns-34 c = listed _ 96 _ (c .match .keys34) refl
+
+returns-35 : tie.Need-returns-35
+returns-35 c = not-listed _ (c .match .rest)
 
 pub fixed-part-spec : {M : Type 1} → statement M
 fixed-part-spec =
@@ -177,4 +181,5 @@ fixed-part-spec =
     returns-31
     returns-32
     returns-33
-    returns-34)
+    returns-34
+    returns-35)
