@@ -10,31 +10,6 @@ use Rattle.binary.specs.declared.line.End.{End}
 use Rattle.binary.specs.declared.line.End.the-variants.{Change, Edge, Limit}
 use Rattle.binary.specs.declared.line.Run.{Run}
 
--- ---- what the code finds is how the run ended
-module _ (k : Bool) (f : ℕ → Bool) (len limit i left most n : ℕ) (l : left ≡ len - i) (m : most ≡ min limit left) (r : n ≡ run k f i most) where
-  count-is : n ≡ runAfter k f len limit i
-  count-is = r ∙ ap (run k f i) (m ∙ ap (min limit) l)
-
-  pub at-edge : len ≤ i + n → _≡_ {A = Run} (record { count = n; end = Edge }) (limitedAfter k f len limit i)
-  unfolding endAfter
-  at-edge h = rw (← count-is, le-leb len (i + n) h)
-
-  pub at-pixel : i + n < len → (d : Bool) → d ≡ f (i + n) → (e : End) → e ≡ endBy k d → _≡_ {A = Run} (record { count = n; end = e }) (limitedAfter k f len limit i)
-  unfolding endAfter
-  at-pixel h d g e q = rw (← count-is, lt-leb len (i + n) h, ← g, q)
-
-module _ (k : Bool) (f : ℕ → Bool) (limit i most n : ℕ) (m : most ≡ min limit i) (r : n ≡ runBack k f i most) where
-  back-count-is : n ≡ runBefore k f limit i
-  back-count-is = r ∙ ap (runBack k f i) m
-
-  pub back-at-edge : i - n ≡ 0 → _≡_ {A = Run} (record { count = n; end = Edge }) (limitedBefore k f limit i)
-  unfolding endBefore
-  back-at-edge h = rw (← back-count-is, eq-eqb (i - n) 0 h)
-
-  pub back-at-pixel : (i - n ≡ 0 → ⊥) → (d : Bool) → d ≡ f (i - n - 1) → (e : End) → e ≡ endBy k d → _≡_ {A = Run} (record { count = n; end = e }) (limitedBefore k f limit i)
-  unfolding endBefore
-  back-at-pixel h d g e q = rw (← back-count-is, ne-eqb (i - n) 0 h, ← g, q)
-
 -- ---- how a run ended that has `left` pixels up to the edge and would be `full` pixels long without a limit
 abbrev pub endOf : ℕ → ℕ → ℕ → End
 endOf limit left full = cond (ltb limit full) Limit (cond (eqb full left) Edge Change)
@@ -169,3 +144,41 @@ module _ (k : Bool) (f : ℕ → Bool) (limit i : ℕ) where
   before-end =
       let z : i - 0 ≡ i = omega arith in
       turned-end ∙ after-end k turned i limit 0 ∙ ap (λ (l : ℕ). endOf limit l (run k turned 0 l)) z ∙ ap (endOf limit i) (sym (turned-run i (omega arith)))
+
+-- ---- what the code finds is how the run ended
+module _ (k : Bool) (f : ℕ → Bool) (len limit i left most n : ℕ) (l : left ≡ len - i) (m : most ≡ min limit left) (r : n ≡ run k f i most) where
+  count-is : n ≡ runAfter k f len limit i
+  count-is = r ∙ ap (run k f i) (m ∙ ap (min limit) l)
+
+  -- it stopped before its bound
+  pub at-change : n < most → _≡_ {A = Run} (record { count = n; end = Change }) (limitedAfter k f len limit i)
+  at-change h =
+      let c = count-is ∙ after-count k f len limit i in
+      let e : Change ≡ endAfter k f len limit i = to-change limit (len - i) (run k f i (len - i)) (omega arith) (λ z. omega arith) ∙ sym (after-end k f len limit i) in
+      rw (← count-is, ← e)
+
+  pub at-edge : len ≤ i + n → _≡_ {A = Run} (record { count = n; end = Edge }) (limitedAfter k f len limit i)
+  unfolding endAfter
+  at-edge h = rw (← count-is, le-leb len (i + n) h)
+
+  pub at-pixel : i + n < len → (d : Bool) → d ≡ f (i + n) → (e : End) → e ≡ endBy k d → _≡_ {A = Run} (record { count = n; end = e }) (limitedAfter k f len limit i)
+  unfolding endAfter
+  at-pixel h d g e q = rw (← count-is, lt-leb len (i + n) h, ← g, q)
+
+module _ (k : Bool) (f : ℕ → Bool) (limit i most n : ℕ) (m : most ≡ min limit i) (r : n ≡ runBack k f i most) where
+  back-count-is : n ≡ runBefore k f limit i
+  back-count-is = r ∙ ap (runBack k f i) m
+
+  pub back-at-change : n < most → _≡_ {A = Run} (record { count = n; end = Change }) (limitedBefore k f limit i)
+  back-at-change h =
+      let c = back-count-is ∙ before-count k f limit i in
+      let e : Change ≡ endBefore k f limit i = to-change limit i (runBack k f i i) (omega arith) (λ z. omega arith) ∙ sym (before-end k f limit i) in
+      rw (← back-count-is, ← e)
+
+  pub back-at-edge : i - n ≡ 0 → _≡_ {A = Run} (record { count = n; end = Edge }) (limitedBefore k f limit i)
+  unfolding endBefore
+  back-at-edge h = rw (← back-count-is, eq-eqb (i - n) 0 h)
+
+  pub back-at-pixel : (i - n ≡ 0 → ⊥) → (d : Bool) → d ≡ f (i - n - 1) → (e : End) → e ≡ endBy k d → _≡_ {A = Run} (record { count = n; end = e }) (limitedBefore k f limit i)
+  unfolding endBefore
+  back-at-pixel h d g e q = rw (← back-count-is, ne-eqb (i - n) 0 h, ← g, q)

@@ -82,7 +82,8 @@ fn end_by(next: bool, want: bool) -> End
     End::Change
 }
 
-// The run of the colour `want` from pixel `from` on, on a line of `len` pixels, `limit` at most, and how it ended.
+// The run of the colour `want` from pixel `from` on, on a line of `len` pixels, `limit` at most, and how it ended. Only where nothing ended it before are
+// the edge and the next pixel asked.
 pub fn limited_on(
     bits: &[u8],
     start: u32,
@@ -95,26 +96,23 @@ pub fn limited_on(
     ensures run { λ r. ⌜ r ≡ limitedAfter want (pixel (now (bits .entry)) start stride) len limit from ⌝ }
     ensures most { λ r. ⌜ r .count ≤ len - from ⌝ }
 {
-    let count = run_on(
-        bits,
-        start,
-        stride,
-        from,
-        capped(limit, pixels_from(len, from)),
-        want,
-    );
+    let most = capped(limit, pixels_from(len, from));
+    let count = run_on(bits, start, stride, from, most, want);
+    if count < most {
+        return Run {
+            count,
+            end: End::Change,
+        };
+    }
     let next = from as u32 + count as u32;
     if len as u32 <= next {
         return Run {
-            count: count,
+            count,
             end: End::Edge,
         };
     }
     let end = end_by(dark_on(bits, start, stride, next), want);
-    Run {
-        count: count,
-        end: end,
-    }
+    Run { count, end }
 }
 
 // The same before pixel `from`, the nearest first.
@@ -122,17 +120,21 @@ pub fn limited_back(bits: &[u8], start: u32, stride: u32, from: u16, limit: u64,
     ensures run { λ r. ⌜ r ≡ limitedBefore want (pixel (now (bits .entry)) start stride) limit from ⌝ }
     ensures most { λ r. ⌜ r .count ≤ from ⌝ }
 {
-    let count = run_back(bits, start, stride, from, capped(limit, from), want);
+    let most = capped(limit, from);
+    let count = run_back(bits, start, stride, from, most, want);
+    if count < most {
+        return Run {
+            count,
+            end: End::Change,
+        };
+    }
     let left = from - count;
     if left == 0 {
         return Run {
-            count: count,
+            count,
             end: End::Edge,
         };
     }
     let end = end_by(dark_on(bits, start, stride, (left - 1) as u32), want);
-    Run {
-        count: count,
-        end: end,
-    }
+    Run { count, end }
 }
