@@ -79,7 +79,10 @@ enum { PLATE_GRAY8 = 1, PLATE_RGB8 = 3, PLATE_RGBA8 = 4 };
    what they would hold after 0.
 
    Another exposure moves no detection: with one whole number added to every byte of a PLATE_GRAY8 picture, none going below 0 or above
-   255, the same bytes are written to bits, denoised and detections, and the same number is returned (proved: crates/exposure). */
+   255, the same bytes are written to bits, denoised and detections, and the same number is returned (proved: crates/exposure).
+
+   A long dark wall is no finder: what looks like one is dropped where a run down or across its middle goes on after 5 modules and 4
+   pixels. The Rust original keeps it (docs/DIFFERENCES.md, N7). */
 uint8_t plate_chain(const uint8_t *picture, size_t picture_len,
                     uint32_t width, uint32_t height, uint32_t stride, uint8_t format,
                     uint8_t *gray, size_t gray_len,
