@@ -13,7 +13,7 @@ use borrow.Author.Tests.{ltb-true, ltb-false, lt-ltb, le-ltb}
 use Rattle.float.specs.Steps.{plus32}
 use Rattle.float.specs.Constants.{half, f1/8, f1/32}
 use Rattle.lists.specs.Lists.{Each, range, folded, sumTo, flatMap}
-use Rattle.lists.proofs.Folds.{flatMap-same, each-range}
+use Rattle.lists.proofs.Folds.{each-range}
 use Rattle.lists.proofs.Numbers.{row-within}
 use Rattle.binary.specs.Binary.{darkBit, darkAt, bytesOf}
 use Rattle.binary.specs.Line.{row, column, run, runBack, runBefore, runAfter, endBefore, endAfter}
@@ -39,7 +39,8 @@ use Rattle.geometry.specs.declared.Marker.{Marker}
 use Rattle.geometry.specs.declared.Marker.the-variants.{Missing}
 use Rattle.finders.specs.Hits.{Hit, runs, hits, lineHits}
 use Rattle.finders.specs.Held.{Sighting, Held, held, mergeNext}
-use Rattle.finders.specs.Search.{maxFinders, sighting, everySecond, seen, rowSightingsBy, columnSightingsBy, sightingsBy, foundBy, sightings, found}
+use Rattle.finders.specs.Search.{maxFinders, sighting, seen, rowSightingsBy, columnSightingsBy, sightingsBy, foundBy, sightings, found}
+use Rattle.finders.proofs.Axes.{second-same}
 use Rattle.finders.specs.Rank.{ranked}
 use Rattle.finders.specs.Answer.{heldList, findRefusal, findersOf}
 use Rattle.rows.specs.Rows.{posPart, negPart, columnEnd, rowEnd, radiusOf, windowOf, middleOf, columnRuns, limitOf as rowsLimit, markerAt, confirmOf, startsAt, rowRuns, confirmed, seenOf, nearerOf, rowNearest, nearestOf, answer, findOf}
@@ -231,15 +232,10 @@ module _ (a b : List ℕ) (w h : ℕ) (same : (k : ℕ) → k < w * h → darkBi
   in-column-same x l =
       ap (flatMap (seen a w h true x)) (hits-same (column a w x) (column b w x) h (column-alike x l)) ∙ seen-alike true x (lineHits (column b w x) h)
 
-  second-same : (f g : ℕ → List Sighting) (n : ℕ) → ((k : ℕ) → k < n → f k ≡ g k) → everySecond f n ≡ everySecond g n
-  second-same f g n e =
-      flatMap-same (λ k. f (2 * k)) (λ k. g (2 * k)) (range 0 ((n + 1) / 2))
-      (each-range (λ k. f (2 * k) ≡ g (2 * k)) 0 ((n + 1) / 2) (λ k _ l. e (2 * k) (omega arith)))
-
   sightings-same : sightings a w h ≡ sightings b w h
   unfolding sightingsBy
   sightings-same =
-      rw (second-same (rowSightingsBy coreOf a w h) (rowSightingsBy coreOf b w h) h in-row-same, second-same (columnSightingsBy coreOf a w h) (columnSightingsBy coreOf b w h) w in-column-same)
+      rw (second-same (rowSightingsBy coreOf a w h) (rowSightingsBy coreOf b w h) h (λ k l. in-row-same (2 * k) l), second-same (columnSightingsBy coreOf a w h) (columnSightingsBy coreOf b w h) w (λ k l. in-column-same (2 * k) l))
 
   pub found-same : found a w h ≡ found b w h
   unfolding foundBy

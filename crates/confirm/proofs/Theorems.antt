@@ -1,16 +1,20 @@
--- A hit is dropped where the limit ended a run in either confirmation (document 02, N7); every other is confirmed as document 000 has it. Assumes nothing.
-use mathlib.Core.Path.{_≡_, refl}
+-- A hit is dropped where the limit ended a run in either confirmation (document 02, N7); every other is confirmed as document 000 has it. The limit ended one
+-- of the six runs exactly where one would be longer without it. Assumes nothing.
+use mathlib.Core.Path.{_≡_, refl, ap, _∙_}
 use mathlib.Core.Bool.{Bool, true, false, cond, _||_}
 use mathlib.Core.List.{List}
-use Prim.Native.Nat.{ℕ}
+use Prim.Native.Nat.{ℕ, _+_, _-_}
+use lib.Dec.{eqb, ltb}
 use lib.Ieee.{Float, toUnsigned}
 use Rattle.binary.specs.Binary.{darkAt}
-use Rattle.binary.specs.Line.{row, column}
+use Rattle.binary.specs.Line.{row, column, run, runBack, runBefore, runAfter, endBefore, endAfter}
+use Rattle.binary.specs.declared.line.End.the-variants.{Change, Edge, Limit}
+use Rattle.binary.proofs.Ends.{endOf, before-end, after-end}
 use Rattle.confirm.specs.declared.Centre.{Centre}
 use Rattle.confirm.specs.declared.Centre.the-variants.{At, Nowhere}
 use Rattle.confirm.specs.declared.Confirmed.{Confirmed}
 use Rattle.confirm.specs.declared.Confirmed.the-variants.{Point, Nothing}
-use Rattle.confirm.specs.Confirm.{limitOf, anyCut, countedOf, coreOf, andThen, verticalBy, horizontalBy, rowBy, columnBy, confirmedBy, confirmedOn}
+use Rattle.confirm.specs.Confirm.{limitOf, isCut, sideBefore, sideAfter, anyCut, countedOf, coreOf, andThen, verticalBy, horizontalBy, rowBy, columnBy, confirmedBy, confirmedOn}
 use Rattle.confirm.specs.Published.{countedOn, ofCentre, cutDown, cutAcross, rowCut, columnCut, cutOn}
 
 -- one confirmation: about a dark pixel (d), with a run that was cut (c), by document 000 at k
@@ -51,3 +55,40 @@ module _ (bits : List ℕ) (w h : ℕ) where
   unfolding confirmedBy cutOn
   cut-dropped true n centre m = column-dropped n centre m
   cut-dropped false n centre m = row-dropped n centre m
+
+-- ---- the six runs
+-- cut: longer than the limit, were there none
+cut-longer : (limit left full : ℕ) → isCut (endOf limit left full) ≡ ltb limit full
+cut-longer limit left full = go (ltb limit full) (eqb full left)
+  where
+    go : (t u : Bool) → isCut (cond t Limit (cond u Edge Change)) ≡ t
+    go true u = refl
+    go false true = refl
+    go false false = refl
+
+module _ (f : ℕ → Bool) (len i limit : ℕ) where
+  -- the whole run of a colour before pixel j, and from pixel j on, is over the limit
+  abbrev pub longBefore : Bool → ℕ → Bool
+  longBefore colour j = ltb limit (runBack colour f j j)
+
+  abbrev pub longAfter : Bool → ℕ → Bool
+  longAfter colour j = ltb limit (run colour f j (len - j))
+
+  before-cut : (colour : Bool) (j : ℕ) → isCut (endBefore colour f limit j) ≡ longBefore colour j
+  before-cut colour j = ap isCut (before-end colour f limit j) ∙ cut-longer limit j (runBack colour f j j)
+
+  after-cut : (colour : Bool) (j : ℕ) → isCut (endAfter colour f len limit j) ≡ longAfter colour j
+  after-cut colour j = ap isCut (after-end colour f len limit j) ∙ cut-longer limit (len - j) (run colour f j (len - j))
+
+  -- the core's, and on either side the light one and the dark one beyond it
+  pub any-longer : anyCut f len i limit
+      ≡ (let top = i - runBefore true f limit i in
+      let end = i + 1 + runAfter true f len limit (i + 1) in
+      longBefore true i || longAfter true (i + 1)
+      || (longBefore false top || longBefore true (top - runBefore false f limit top))
+      || (longAfter false end || longAfter true (end + runAfter false f len limit end)))
+  unfolding anyCut sideBefore sideAfter
+  any-longer =
+      let top = i - runBefore true f limit i in
+      let end = i + 1 + runAfter true f len limit (i + 1) in
+      rw (before-cut true i, after-cut true (i + 1), before-cut false top, before-cut true (top - runBefore false f limit top), after-cut false end, after-cut true (end + runAfter false f len limit end))

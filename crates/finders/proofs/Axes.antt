@@ -2,12 +2,12 @@
 use mathlib.Core.Path.{_≡_, ap, _∙_}
 use mathlib.Core.Bool.{Bool, true, false, not, cond, Bool·beq}
 use mathlib.Core.List.{List, [], _∷_}
-use Prim.Native.Nat.{ℕ, zero, suc, _+_, _-_, _*_, _/_, _≤_}
+use Prim.Native.Nat.{ℕ, zero, suc, _+_, _-_, _*_, _/_, _≤_, _<_}
 use native.Mathlib.Omega.{arith}
 use lib.Ieee.{Float}
 use lib.ListN.{length, length-append}
 use Rattle.lists.specs.Lists.{range, folded, flatMap}
-use Rattle.lists.proofs.Folds.{folded-append, flatMap-few, length-count}
+use Rattle.lists.proofs.Folds.{each-range, folded-append, flatMap-few, flatMap-same, length-count}
 use Rattle.lcr_core.specs.Outcome.{maxSide}
 use Rattle.lcr_core.specs.Passed.{Sides}
 use Rattle.binary.specs.Line.{pixel}
@@ -19,7 +19,7 @@ use Rattle.confirm.specs.declared.Confirmed.{Confirmed}
 use Rattle.confirm.specs.declared.Confirmed.the-variants.{Point, Nothing}
 use Rattle.finders.specs.declared.search.Line.{Line}
 use Rattle.finders.specs.Hits.{Hit, runs, hitIf, window, hits, lineHits}
-use Rattle.finders.specs.Held.{Held, held, mergeNext}
+use Rattle.finders.specs.Held.{Sighting, Held, held, mergeNext}
 use Rattle.finders.specs.Search.{maxFinders, sighting, seen, everySecond, rowSightingsBy, columnSightingsBy, sightingsBy, foundBy, found}
 use Rattle.finders.specs.Inner.{lineMost, axisMost, Fine, lineAt, lineCount, lineSightings, scanned, scannedAt, axis}
 use Rattle.finders.proofs.Folding.{folded-flatMap}
@@ -58,6 +58,11 @@ runs-length f k m i (suc n) = go (Bool·beq (f i) k) (runs-length f k (suc m) (s
 hits-few : (f : ℕ → Bool) (len : ℕ) → length (lineHits f len) ≤ len + 1
 unfolding lineHits
 hits-few f len = omega (arith, hits-length 0 (runs f true 0 0 len), runs-length f true 0 0 len)
+
+-- what every second line gives, where those that are scanned give the same
+pub second-same : (f g : ℕ → List Sighting) (n : ℕ) → ((k : ℕ) → 2 * k < n → f (2 * k) ≡ g (2 * k)) → everySecond f n ≡ everySecond g n
+second-same f g n e =
+    flatMap-same (λ (k : ℕ). f (2 * k)) (λ (k : ℕ). g (2 * k)) (range 0 ((n + 1) / 2)) (each-range (λ (k : ℕ). f (2 * k) ≡ g (2 * k)) 0 ((n + 1) / 2) (λ k _ l. e k (omega arith)))
 
 module _ (bits : List ℕ) (width height : ℕ) where
   -- and no more confirmed hits than hits

@@ -1,14 +1,14 @@
 -- Where the limit ended no run of a hit that document 000 confirms, the search is document 000's: its hits, finders, number and answer (document 02, N7).
 -- Assumes nothing.
-use Prim.Native.Nat.{ℕ, _+_, _*_, _/_, _<_}
+use Prim.Native.Nat.{ℕ, _*_}
 use native.Mathlib.Omega.{arith}
 use mathlib.Core.Path.{_≡_, refl, ap, ap₂, _∙_}
 use mathlib.Core.Bool.{Bool, true, false, cond}
 use mathlib.Core.List.{List, [], _++_}
 use lib.Ieee.{Float}
 use lib.ListN.{length}
-use Rattle.lists.specs.Lists.{Each, range, folded, flatMap}
-use Rattle.lists.proofs.Folds.{each-range, flatMap-same}
+use Rattle.lists.specs.Lists.{Each, folded, flatMap}
+use Rattle.lists.proofs.Folds.{flatMap-same}
 use Rattle.lists.proofs.Filters.{each-map}
 use Rattle.binary.specs.Line.{row, column}
 use Rattle.confirm.specs.Confirm.{coreOf, countedOf, confirmedOn}
@@ -18,8 +18,9 @@ use Rattle.confirm.specs.declared.Confirmed.{Confirmed}
 use Rattle.confirm.specs.declared.Confirmed.the-variants.{Point, Nothing}
 use Rattle.finders.specs.Hits.{Hit, lineHits}
 use Rattle.finders.specs.Held.{Sighting, Held, held, mergeNext}
-use Rattle.finders.specs.Search.{maxFinders, sighting, everySecond, seenBy, rowSightingsBy, columnSightingsBy, sightingsBy, foundBy, sightings, found}
+use Rattle.finders.specs.Search.{maxFinders, sighting, seenBy, rowSightingsBy, columnSightingsBy, sightingsBy, foundBy, sightings, found}
 use Rattle.finders.specs.Answer.{refusalAfter, findersAfter, answerAfter, findRefusal, findersOf, answerOf}
+use Rattle.finders.proofs.Axes.{second-same}
 use Rattle.finders.specs.Published.{publishedSightings, publishedFinders, publishedRefusal, publishedAnswer, Uncut, NoneCut}
 
 -- a hit that is dropped where t, and that document 000 would confirm by c
@@ -39,17 +40,13 @@ module _ (bits : List ℕ) (w h : ℕ) where
       flatMap-same (seenBy coreOf bits w h columns n) (seenBy countedOf bits w h columns n) ts
       (each-map (Uncut bits w h columns n) (λ (t : Hit). seenBy coreOf bits w h columns n t ≡ seenBy countedOf bits w h columns n t) (seen-same columns n) ts u)
 
-  lines-same : (f g : ℕ → List Sighting) (n : ℕ) → ((k : ℕ) → 2 * k < n → f (2 * k) ≡ g (2 * k)) → everySecond f n ≡ everySecond g n
-  lines-same f g n e =
-      flatMap-same (λ (k : ℕ). f (2 * k)) (λ (k : ℕ). g (2 * k)) (range 0 ((n + 1) / 2)) (each-range (λ (k : ℕ). f (2 * k) ≡ g (2 * k)) 0 ((n + 1) / 2) (λ k _ l. e k (omega arith)))
-
   module _ (u : NoneCut bits w h) where
     pub uncut-sightings : sightings bits w h ≡ publishedSightings bits w h
     unfolding sightingsBy
     uncut-sightings =
         ap₂ (λ (a b : List Sighting). a ++ b)
-        (lines-same (rowSightingsBy coreOf bits w h) (rowSightingsBy countedOf bits w h) h (λ k l. line-same false (2 * k) (lineHits (row bits w (2 * k)) w) (u .rows k (omega (arith, l)))))
-        (lines-same (columnSightingsBy coreOf bits w h) (columnSightingsBy countedOf bits w h) w (λ k l. line-same true (2 * k) (lineHits (column bits w (2 * k)) h) (u .columns k (omega (arith, l)))))
+        (second-same (rowSightingsBy coreOf bits w h) (rowSightingsBy countedOf bits w h) h (λ k l. line-same false (2 * k) (lineHits (row bits w (2 * k)) w) (u .rows k (omega (arith, l)))))
+        (second-same (columnSightingsBy coreOf bits w h) (columnSightingsBy countedOf bits w h) w (λ k l. line-same true (2 * k) (lineHits (column bits w (2 * k)) h) (u .columns k (omega (arith, l)))))
 
     uncut-found : found bits w h ≡ foundBy countedOf bits w h
     unfolding foundBy
