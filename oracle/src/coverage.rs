@@ -1,7 +1,9 @@
 //! What the cases reached, by the expected answers and by the hits of the finder searches.
 
-use crate::rules::{End, Run};
+use crate::differences::triples_of;
+use crate::rules::{End, Run, graded};
 use crate::search::{Hit, answer_of, limit_of};
+use lcr_decode::detect::{Detection, Finder};
 use std::cell::RefCell;
 use std::collections::BTreeMap;
 
@@ -54,6 +56,7 @@ impl Coverage {
             println!("answers of {function} by detections: {}", list(counts));
         }
         println!("detections by version: {}; with a marker: {}", list(&self.detections), self.markers);
+        GRADES.with_borrow(|g| g.print());
         SEARCHES.with_borrow(|s| s.print());
     }
 }
@@ -94,6 +97,7 @@ struct Searches {
 
 thread_local! {
     static SEARCHES: RefCell<Searches> = RefCell::default();
+    static GRADES: RefCell<Grades> = RefCell::default();
 }
 
 /// Counts a search by the hits that the published rule confirms.
@@ -145,5 +149,45 @@ impl Searches {
         let wrong: Vec<String> =
             self.wrong.iter().zip(WRONG).map(|(n, (rule, _))| format!("{rule}: {n}")).collect();
         println!("answers that a wrong rule would change: {}", wrong.join("; "));
+    }
+}
+
+/// Scores and mean modules of the records 80, 81, 82 and 96 (document 02, N8).
+#[derive(Default)]
+struct Grades {
+    /// Detections with another mean than the pitch rule's, with one that is not a number, with a score of 0.
+    detections: [u64; 3],
+    /// Lists of two or three detections, those with two equal scores, lists after a triple that could not be built.
+    lists: [u64; 3],
+}
+
+/// Counts the detections of a record by the list that they come from.
+pub fn note_grades(list: &[Finder], found: &[Detection]) {
+    GRADES.with_borrow_mut(|g| g.note(list, found));
+}
+
+impl Grades {
+    fn note(&mut self, list: &[Finder], found: &[Detection]) {
+        let (triples, left_out) = triples_of(list, found);
+        let grades: Vec<(f32, f32)> = found.iter().map(graded).collect();
+        for ((score, mean), t) in grades.iter().zip(triples) {
+            let other = !mean.is_nan() && *mean != t.pitch;
+            let met = [other, mean.is_nan(), *score == 0.0];
+            (0..3).for_each(|k| self.detections[k] += met[k] as u64);
+        }
+        let equal = grades.windows(2).any(|w| w[0].0 == w[1].0);
+        let met = [found.len() > 1, equal, left_out > 0];
+        (0..3).for_each(|k| self.lists[k] += met[k] as u64);
+    }
+
+    fn print(&self) {
+        let [other, odd, zero] = self.detections;
+        println!(
+            "detections with another mean module than the pitch rule's: {other}, with one that is not a number: {odd}, with a score of 0: {zero}"
+        );
+        let [longer, equal, left_out] = self.lists;
+        println!(
+            "lists of two or three detections: {longer}, with two equal scores: {equal}; lists after a triple that could not be built: {left_out}"
+        );
     }
 }

@@ -5,6 +5,7 @@ use crate::cases::{false_plate, full_table, scene, walls};
 use crate::compare::Row;
 use crate::picture::{finder_grid, ringed};
 use crate::rng::Rng;
+use crate::rules::graded;
 use lcr_decode::detect::{Detection, Finder};
 use lcr_decode::image::binarize;
 use lcr_decode::transform::numbers_of;
@@ -32,7 +33,8 @@ fn detection_line(d: &Detection) -> String {
         None => "-".to_string(),
     };
     let numbers: Vec<String> = numbers_of(&d.transform).iter().map(|v| digits64(*v)).collect();
-    format!("{} {marker} {}\n", d.version.get(), numbers.join(" "))
+    let (score, mean) = graded(d);
+    format!("{} {marker} {} {} {}\n", d.version.get(), numbers.join(" "), digits32(score), digits32(mean))
 }
 
 /// What the program is to print, and whose answer that is.

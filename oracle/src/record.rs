@@ -1,5 +1,6 @@
 //! Records for the replay program and the bytes of its answers, as docs/REPLAY.md has them.
 
+use crate::rules::graded;
 use lcr_decode::detect::{Detection, Finder};
 use lcr_decode::transform::{numbers_of, transform_of};
 
@@ -157,12 +158,24 @@ impl Bytes {
         list.iter().fold(self, |out, d| out.detection(d))
     }
 
+    /// 24 bytes behind the detections: score and mean module of three places, 0 beyond the list.
+    pub fn grades(&mut self, list: &[Detection]) -> &mut Bytes {
+        (0..3).fold(self, |out, k| out.point(list.get(k).map_or((0.0, 0.0), graded)))
+    }
+
     /// A lent slice as the call left it: its length and FNV-1a of its bytes.
     pub fn slice(&mut self, bytes: &[u8]) -> &mut Bytes {
         let hash =
             bytes.iter().fold(0xcbf2_9ce4_8422_2325u64, |h, b| (h ^ *b as u64).wrapping_mul(0x100_0000_01b3));
         self.u32(bytes.len() as u32).u64(hash)
     }
+}
+
+/// The bytes of finders, by which they are held to others.
+pub fn bytes_of(list: &[Finder]) -> Vec<u8> {
+    let mut out = Bytes::default();
+    out.finders(list);
+    out.0
 }
 
 /// A lent slice as the replay program hands it over.

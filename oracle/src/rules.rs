@@ -1,8 +1,8 @@
 //! What documents 01 and 02 add to the published source, in the comparison's own lines: refusals,
-//! how a run ended, block values, the stored list and the firmware's bytes.
+//! how a run ended, block values, the stored list, a detection's score and mean module, and the firmware's bytes.
 
 use crate::record::{Bytes, Fields};
-use lcr_decode::detect::{Detection, Finder};
+use lcr_decode::detect::{Detection, Finder, module_of, score_of};
 
 // ---- refusals
 
@@ -124,7 +124,7 @@ pub fn block_values(gray: &[u8], width: u32, height: u32) -> [Vec<u8>; 5] {
     [pixels.iter().map(mean).collect(), least, greatest, edges, nears]
 }
 
-// ---- the stored list and the firmware's bytes
+// ---- the stored list, score and mean module, the firmware's bytes
 
 pub struct List {
     pub width: u32,
@@ -161,6 +161,11 @@ pub fn written_list(width: u32, height: u32, finders: &[Finder]) -> Vec<u8> {
         out.f32(f.module).u32(f.confirmations);
     });
     out.0
+}
+
+/// Score and mean module of a detection (document 02, N8), by `right_angle_score` and the line of `build_detection`.
+pub fn graded(d: &Detection) -> (f32, f32) {
+    (score_of(&d.finders).unwrap(), module_of(d.finders))
 }
 
 /// The firmware's 367 bytes.

@@ -35,8 +35,8 @@ cond-true b x y e = rw e
 cond-false : {A : Type 0} (b : Bool) (x y : A) → b ≡ false → y ≡ cond b x y
 cond-false b x y e = rw e
 
-module _ (bits : List ℕ) (w h : ℕ) (c : Corners) (v : Version) (m : Float) (em : m ≡ meanOf (c .tl) (c .tr) (c .bl)) (rough : Transformed) (er : rough ≡ builtOf c Missing (v .0)) where
-  pub rough-none : not (rough .fit .found) ≡ true → (r : Built) → r ≡ none → r ≡ buildWith bits w h c (v .0)
+module _ (bits : List ℕ) (w h : ℕ) (c : Corners) (s : Float) (v : Version) (m : Float) (em : m ≡ meanOf (c .tl) (c .tr) (c .bl)) (rough : Transformed) (er : rough ≡ builtOf c Missing (v .0)) where
+  pub rough-none : not (rough .fit .found) ≡ true → (r : Built) → r ≡ none → r ≡ buildWith bits w h c s (v .0)
   unfolding buildWith
   rough-none f r e = e ∙ cond-false (fitWith bits w h c Missing (v .0) .found) _ none (sym (ap (λ (b : Transformed). b .fit .found) er) ∙ is-false (rough .fit .found) f)
 
@@ -55,23 +55,26 @@ module _ (bits : List ℕ) (w h : ℕ) (c : Corners) (v : Version) (m : Float) (
     same-fit =
         ap (λ (b : Transformed). b .fit) (eb ∙ ap (λ (l : Located). builtOf c (l .marker) (v .0)) (el ∙ ap (λ (x : Transform). locateOf bits w h x (v .0) m) (ap (λ (b : Transformed). b .fit .transform) er) ∙ ap (λ (x : Float). locateOf bits w h (roughly .transform) (v .0) x) em))
 
-    pub fit-none : not (built .fit .found) ≡ true → (r : Built) → r ≡ none → r ≡ buildWith bits w h c (v .0)
+    pub fit-none : not (built .fit .found) ≡ true → (r : Built) → r ≡ none → r ≡ buildWith bits w h c s (v .0)
     unfolding buildWith
-    fit-none f r e = e ∙ cond-false (fitted .found) (refinedFrom bits w h c (fitted .transform) (v .0)) none (sym (ap (λ (x : Fit). x .found) same-fit) ∙ is-false (built .fit .found) f) ∙ cond-true (roughly .found) _ none was-rough
+    fit-none f r e = e ∙ cond-false (fitted .found) (refinedFrom bits w h c s (fitted .transform) (v .0)) none (sym (ap (λ (x : Fit). x .found) same-fit) ∙ is-false (built .fit .found) f) ∙ cond-true (roughly .found) _ none was-rough
 
-    pub complete : not (built .fit .found) ≡ false → (r : Refined) → r ≡ refineOf bits w h c (v .0) (built .fit .transform) m
-        → record { found = true; detection = record { finders = c; marker = r .marker; version = v; transform = r .transform } } ≡ buildWith bits w h c (v .0)
+    -- the detection from what the refinement answers and the mean module
+    abbrev made : Refined → Float → Built
+    made r x = record { found = true; detection = record { finders = c; marker = r .marker; version = v; transform = r .transform; score = s; mean = x } }
+
+    pub complete : not (built .fit .found) ≡ false → (r : Refined) → r ≡ refineOf bits w h c (v .0) (built .fit .transform) m → made r m ≡ buildWith bits w h c s (v .0)
     unfolding buildWith
     complete f r e =
-        ap (λ (r : Refined). record { found = true; detection = record { finders = c; marker = r .marker; version = v; transform = r .transform } })
-        (e ∙ ap (λ (x : Fit). refineOf bits w h c (v .0) (x .transform) m) same-fit ∙ ap (refineOf bits w h c (v .0) (fitted .transform)) em)
-        ∙ cond-true (fitted .found) (refinedFrom bits w h c (fitted .transform) (v .0)) none (sym (ap (λ (x : Fit). x .found) same-fit) ∙ is-true (built .fit .found) f) ∙ cond-true (roughly .found) _ none was-rough
+        ap (made r) em
+        ∙ ap (λ (r : Refined). made r (meanOf (c .tl) (c .tr) (c .bl))) (e ∙ ap (λ (x : Fit). refineOf bits w h c (v .0) (x .transform) m) same-fit ∙ ap (refineOf bits w h c (v .0) (fitted .transform)) em)
+        ∙ cond-true (fitted .found) (refinedFrom bits w h c s (fitted .transform) (v .0)) none (sym (ap (λ (x : Fit). x .found) same-fit) ∙ is-true (built .fit .found) f) ∙ cond-true (roughly .found) _ none was-rough
 
-module _ (bits : List ℕ) (w h : ℕ) (c : Corners) (found : Found) (e : found ≡ estimateOf c) (r : Built) where
-  pub of-version : (v : Version) → found ≡ Is v → r ≡ buildWith bits w h c (v .0) → r ≡ buildOf bits w h c
+module _ (bits : List ℕ) (w h : ℕ) (c : Corners) (s : Float) (found : Found) (e : found ≡ estimateOf c) (r : Built) where
+  pub of-version : (v : Version) → found ≡ Is v → r ≡ buildWith bits w h c s (v .0) → r ≡ buildOf bits w h c s
   unfolding buildOf
   of-version v f g = rw (← e, f) g
 
-  pub of-none : found ≡ Nothing → r ≡ none → r ≡ buildOf bits w h c
+  pub of-none : found ≡ Nothing → r ≡ none → r ≡ buildOf bits w h c s
   unfolding buildOf
   of-none f g = rw (← e, f) g

@@ -47,12 +47,12 @@ built-each f (t ∷ ts) = go (f t .found) (built-each f ts)
     go false e = e
 
 pub not-replaced : (bits : List ℕ) (w h : ℕ) (fs : List Finder)
-    → length (detectionsOf bits w h fs) ≡ howMany (λ (t : Triple). buildOf bits w h (cornersOf fs t) .found) (ranked fs)
+    → length (detectionsOf bits w h fs) ≡ howMany (λ (t : Triple). buildOf bits w h (cornersOf fs t) (t .score) .found) (ranked fs)
 unfolding detectionsOf detectionOf
-not-replaced bits w h fs = built-count (λ (t : Triple). buildOf bits w h (cornersOf fs t)) (ranked fs)
+not-replaced bits w h fs = built-count (λ (t : Triple). buildOf bits w h (cornersOf fs t) (t .score)) (ranked fs)
 
 -- and each is that of its triple, in rank order
 pub of-its-triple : (bits : List ℕ) (w h : ℕ) (fs : List Finder)
-    → detectionsOf bits w h fs ≡ map (λ (t : Triple). buildOf bits w h (cornersOf fs t) .detection) (those (λ (t : Triple). buildOf bits w h (cornersOf fs t) .found) (ranked fs))
+    → detectionsOf bits w h fs ≡ map (λ (t : Triple). buildOf bits w h (cornersOf fs t) (t .score) .detection) (those (λ (t : Triple). buildOf bits w h (cornersOf fs t) (t .score) .found) (ranked fs))
 unfolding detectionsOf detectionOf
-of-its-triple bits w h fs = built-each (λ (t : Triple). buildOf bits w h (cornersOf fs t)) (ranked fs)
+of-its-triple bits w h fs = built-each (λ (t : Triple). buildOf bits w h (cornersOf fs t) (t .score)) (ranked fs)

@@ -4,4 +4,5 @@ pub mod Tables
 pub mod Answers
 pub mod Tails
 pub mod Theorems
+pub mod Grades
 pub mod Published

@@ -73,7 +73,7 @@ module _ (fs : List Finder) where
 
   pub first-few : (bits : List ℕ) (w h p : ℕ) (found : Detections) → found ≡ tableOf (first bits w h p) → found .count ≤ p
   unfolding detectionOf
-  first-few bits w h p found g = rw g (omega (arith, flatMap-few (detectionOf bits w h fs) (λ s. kept-few (buildOf bits w h (cornersOf fs s))) (take p (ranked fs)), length-take p (ranked fs)))
+  first-few bits w h p found g = rw g (omega (arith, flatMap-few (detectionOf bits w h fs) (λ s. kept-few (buildOf bits w h (cornersOf fs s) (s .score))) (take p (ranked fs)), length-take p (ranked fs)))
 
   -- what the code reads of the ranking r
   module _ (r : Ranked) (e : r ≡ rankedTable (ranked fs)) where
@@ -95,12 +95,12 @@ module _ (fs : List Finder) where
         let m : p < length (ranked fs) = rw ranked-count at l in
         rw (place-is p d l) (within p m)
 
-    pub one-more : (bits : List ℕ) (w h : ℕ) (p : ℕ) (d : Triple) → p < r .count → (c : Corners) → c ≡ cornersOf fs (getD (r .at) p d) → (b : Built) → b ≡ buildOf bits w h c
+    pub one-more : (bits : List ℕ) (w h : ℕ) (p : ℕ) (d : Triple) → p < r .count → (c : Corners) → c ≡ cornersOf fs (getD (r .at) p d) → (b : Built) → b ≡ buildOf bits w h c (getD (r .at) p d .score)
         → (found more : Detections) → found ≡ tableOf (first bits w h p) → ((ds : List Detection) → found ≡ tableOf ds → more ≡ tableOf (ds ++ kept b)) → more ≡ tableOf (first bits w h (p + 1))
     unfolding detectionOf
     one-more bits w h p d l c ec b eb found more g f =
         let m : p < length (ranked fs) = rw ranked-count at l in
-        let q : kept b ≡ detectionOf bits w h fs (at p) = ap kept (eb ∙ ap (buildOf bits w h) (ec ∙ ap (cornersOf fs) (place-is p d l))) in
+        let q : kept b ≡ detectionOf bits w h fs (at p) = ap kept (eb ∙ ap (λ (x : Corners). buildOf bits w h x (getD (r .at) p d .score)) ec ∙ ap (λ (t : Triple). buildOf bits w h (cornersOf fs t) (t .score)) (place-is p d l)) in
         f (first bits w h p) g ∙ ap tableOf (ap (λ (l : List Detection). first bits w h p ++ l) q ∙ sym (flatMap-take (detectionOf bits w h fs) (ranked fs) p zeroTriple m))
 
     pub all-built : (bits : List ℕ) (w h : ℕ) (p : ℕ) (found : Detections) → p ≡ r .count → found ≡ tableOf (first bits w h p) → found ≡ tableOf (detectionsOf bits w h fs)

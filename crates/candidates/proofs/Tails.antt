@@ -137,12 +137,12 @@ columnThrough down across x centre m =
     let y = toUnsigned 32 centre in andThen (across x y m) (λ cx. andThen (down (toUnsigned 32 cx) y m) (λ cy. Confirmation cx cy))
 
 -- what a detection is made of: the marker by a transform, and the refinement from one
-abbrev buildBy : (Transform → Marker) → (Transform → Refined) → Corners → ℕ → Built
-buildBy locate refine c v =
+abbrev buildBy : (Transform → Marker) → (Transform → Refined) → Corners → Float → ℕ → Built
+buildBy locate refine c s v =
     let rough = builtOf c Missing v .fit in
     let fit = builtOf c (locate (rough .transform)) v .fit in
     let r = refine (fit .transform) in
-    cond (rough .found) (cond (fit .found) (record { found = true; detection = record { finders = c; marker = r .marker; version = record { 0 = v }; transform = r .transform } }) none) none
+    cond (rough .found) (cond (fit .found) (record { found = true; detection = record { finders = c; marker = r .marker; version = record { 0 = v }; transform = r .transform; score = s; mean = meanOf (c .tl) (c .tr) (c .bl) } }) none) none
 
 -- the window of the search along rows lies in the picture
 end-within : (p : Point) (m : Float) (w h : ℕ) → windowOf p m w h .end ≤ w
@@ -354,24 +354,24 @@ module _ (a b : List ℕ) (w h : ℕ) (same : (k : ℕ) → k < w * h → darkBi
         ap (λ (n : ℕ). refined n (rebuiltOf c (locatedOf a w h t v m) v t) (locatedOf a w h t v m)) (alignment-same v)
         ∙ ap (λ (k : Marker). refined (alignmentRefusal (length b) w h v) (rebuiltOf c k v t) k) (located-same t v m)
 
-    build-same : (c : Corners) (v : ℕ) → buildWith a w h c v ≡ buildWith b w h c v
+    build-same : (c : Corners) (s : Float) (v : ℕ) → buildWith a w h c s v ≡ buildWith b w h c s v
     unfolding buildWith
-    build-same c v =
+    build-same c s v =
         let m = meanOf (c .tl) (c .tr) (c .bl) in
-        ap (λ (l : Transform → Marker). buildBy l (λ t. refineOf a w h c v t m) c v) (fun-ext (λ t. ap (λ (l : Located). l .marker) (locate-same t v m)))
-        ∙ ap (λ (r : Transform → Refined). buildBy (λ t. locateOf b w h t v m .marker) r c v) (fun-ext (λ t. refine-same c v t m))
+        ap (λ (l : Transform → Marker). buildBy l (λ t. refineOf a w h c v t m) c s v) (fun-ext (λ t. ap (λ (l : Located). l .marker) (locate-same t v m)))
+        ∙ ap (λ (r : Transform → Refined). buildBy (λ t. locateOf b w h t v m .marker) r c s v) (fun-ext (λ t. refine-same c v t m))
 
-    built-same : (c : Corners) → buildOf a w h c ≡ buildOf b w h c
+    built-same : (c : Corners) (s : Float) → buildOf a w h c s ≡ buildOf b w h c s
     unfolding buildOf
-    built-same c = go (estimateOf c)
+    built-same c s = go (estimateOf c)
       where
-        go : (e : Found) → buildFor a w h c e ≡ buildFor b w h c e
+        go : (e : Found) → buildFor a w h c s e ≡ buildFor b w h c s e
         go Nothing = refl
-        go (Is v) = build-same c (v .0)
+        go (Is v) = build-same c s (v .0)
 
     pub detections-same : (fs : List Finder) → detectionsOf a w h fs ≡ detectionsOf b w h fs
     unfolding detectionsOf detectionOf
-    detections-same fs = ap (λ (f : Triple → List Detection). flatMap f (rankedTriples fs)) (fun-ext (λ t. ap kept (built-same (cornersOf fs t))))
+    detections-same fs = ap (λ (f : Triple → List Detection). flatMap f (rankedTriples fs)) (fun-ext (λ t. ap kept (built-same (cornersOf fs t) (t .score))))
 
     pub answer-same : detectAnswer a w h ≡ detectAnswer b w h
     unfolding detectAnswer

@@ -89,7 +89,7 @@ same-answer bits w h e = rw (e, found-passed bits w h e)
 -- ---- three at most, and none of fewer than three finders
 pub three-at-most : (bits : List ℕ) (w h : ℕ) (fs : List Finder) → length (detectionsOf bits w h fs) ≤ 3
 unfolding detectionsOf detectionOf
-three-at-most bits w h fs = omega (arith, flatMap-few (detectionOf bits w h fs) (λ t. kept-few (buildOf bits w h (cornersOf fs t))) (ranked fs), at-most-three fs)
+three-at-most bits w h fs = omega (arith, flatMap-few (detectionOf bits w h fs) (λ t. kept-few (buildOf bits w h (cornersOf fs t) (t .score))) (ranked fs), at-most-three fs)
 
 none-of-two : (fs : List Finder) → length fs < 3 → (ts : List Triple) → Each (λ (t : Triple). Admissible fs t × (before fs t < 3)) ts → ts ≡ []
 unfolding Admissible

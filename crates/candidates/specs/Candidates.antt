@@ -28,9 +28,9 @@ cornersOf fs t = orderOf (finderAt fs (t .i)) (finderAt fs (t .j)) (finderAt fs 
 abbrev pub kept : Built → List Detection
 kept b = cond (b .found) (b .detection ∷ []) []
 
--- that of a triple of the finders fs
+-- that of a triple of the finders fs, with its score
 unfoldable pub detectionOf : List ℕ → ℕ → ℕ → List Finder → Triple → List Detection
-detectionOf bits w h fs t = kept (buildOf bits w h (cornersOf fs t))
+detectionOf bits w h fs t = kept (buildOf bits w h (cornersOf fs t) (t .score))
 
 -- the detections of a list of finders in a picture: those of the ranked triples, in rank order
 unfoldable pub detectionsOf : List ℕ → ℕ → ℕ → List Finder → List Detection

@@ -5,6 +5,7 @@ use mathlib.Core.Bool.{true, false, cond}
 use mathlib.Core.List.{List}
 use Prim.Native.Nat.{ℕ}
 use lib.Ieee.{Float}
+use Rattle.float.specs.Constants.{f0}
 use Rattle.lcr_core.specs.declared.version.Found.{Found}
 use Rattle.lcr_core.specs.declared.version.Found.the-variants.{Is, Nothing}
 use Rattle.transform.specs.declared.Fit.{Fit}
@@ -29,6 +30,8 @@ zeroDetection =
       marker = Missing;
       version = record { 0 = 0 };
       transform = zeroTransform;
+      score = f0;
+      mean = f0;
     }
 
 -- no detection
@@ -49,24 +52,26 @@ module _ (bits : List ℕ) (w h : ℕ) (c : Corners) where
   abbrev pub markerBy : Transform → ℕ → Marker
   markerBy t v = locateOf bits w h t v mean .marker
 
-  -- the detection, its transform and its marker refined once from the transform t
-  abbrev pub refinedFrom : Transform → ℕ → Built
-  refinedFrom t v =
-      let r = refineOf bits w h c v t mean in
-      record { found = true; detection = record { finders = c; marker = r .marker; version = record { 0 = v }; transform = r .transform } }
+  -- of a triple with the score s
+  module _ (s : Float) where
+    -- the detection, its transform and its marker refined once from the transform t, with the score and the mean module
+    abbrev pub refinedFrom : Transform → ℕ → Built
+    refinedFrom t v =
+        let r = refineOf bits w h c v t mean in
+        record { found = true; detection = record { finders = c; marker = r .marker; version = record { 0 = v }; transform = r .transform; score = s; mean = mean } }
 
-  -- for version v: a rough transform through the finders alone, the marker by it, and the transform through both
-  unfoldable pub buildWith : ℕ → Built
-  buildWith v =
-      let rough = fitWith Missing v in
-      let fit = fitWith (markerBy (rough .transform) v) v in
-      cond (rough .found) (cond (fit .found) (refinedFrom (fit .transform) v) none) none
+    -- for version v: a rough transform through the finders alone, the marker by it, and the transform through both
+    unfoldable pub buildWith : ℕ → Built
+    buildWith v =
+        let rough = fitWith Missing v in
+        let fit = fitWith (markerBy (rough .transform) v) v in
+        cond (rough .found) (cond (fit .found) (refinedFrom (fit .transform) v) none) none
 
-  -- for the version that the finders imply, if they imply one
-  abbrev pub buildFor : Found → Built
-  buildFor Nothing = none
-  buildFor (Is v) = buildWith (v .0)
+    -- for the version that the finders imply, if they imply one
+    abbrev pub buildFor : Found → Built
+    buildFor Nothing = none
+    buildFor (Is v) = buildWith (v .0)
 
-  -- `build_detection`
-  unfoldable pub buildOf : Built
-  buildOf = buildFor (estimateOf c)
+    -- `build_detection`
+    unfoldable pub buildOf : Built
+    buildOf = buildFor (estimateOf c)

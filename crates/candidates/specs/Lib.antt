@@ -1,4 +1,5 @@
 pub mod Candidates
 pub mod Detection
+pub mod Graded
 pub mod Passing
 pub mod Published

@@ -17,12 +17,15 @@ ghost use Rattle.candidates.specs.Detection.{none, buildWith, buildOf, z
 ghost use Rattle.candidates.specs.Passing.{Within};
 ghost use Rattle.candidates.specs.Candidates.{cornersOf, kept, detectionsOf, tableOf, answered, fromAnswer, detectAnswer, detectFirst};
 
-// A detected symbol: its finders, the centre of its alignment marker where one was found, its version, and the transform from modules to pixels.
+// A detected symbol: its finders, the centre of its alignment marker where one was found, its version, the transform from modules to pixels, the score of its
+// triple and the mean module of its finders.
 pub struct Detection {
     pub finders: Corners,
     pub marker: Marker,
     pub version: Version,
     pub transform: Transform,
+    pub score: f32,
+    pub mean: f32,
 }
 
 // A detection, or none, and then zeros.
@@ -64,6 +67,8 @@ fn zero_detection() -> Detection
         marker: Marker::Missing,
         version: Version(0),
         transform: t,
+        score: 0.0,
+        mean: 0.0,
     }
 }
 
@@ -77,9 +82,9 @@ fn nothing_built() -> Built
     }
 }
 
-// The detection of three ordered finders for a version, or none.
-fn build_with(bits: &[u8], width: u32, height: u32, c: Corners, v: Version) -> Built
-    ensures { λ r. ⌜ r ≡ buildWith (now (bits .entry)) width height c (v .0) ⌝ }
+// The detection of three ordered finders with a triple's score for a version, or none.
+fn build_with(bits: &[u8], width: u32, height: u32, c: Corners, score: f32, v: Version) -> Built
+    ensures { λ r. ⌜ r ≡ buildWith (now (bits .entry)) width height c score (v .0) ⌝ }
 {
     let mean = geometry::score::mean_module(c.tl, c.tr, c.bl);
     // Predict the marker by the finders alone, then look for it there.
@@ -105,16 +110,18 @@ fn build_with(bits: &[u8], width: u32, height: u32, c: Corners, v: Version) -> B
             marker: last_marker,
             version: v,
             transform: last_transform,
+            score,
+            mean,
         },
     }
 }
 
-// The detection of three ordered finders, or none.
-fn build_detection(bits: &[u8], width: u32, height: u32, c: Corners) -> Built
-    ensures { λ r. ⌜ r ≡ buildOf (now (bits .entry)) width height c ⌝ }
+// The detection of three ordered finders with a triple's score, or none.
+fn build_detection(bits: &[u8], width: u32, height: u32, c: Corners, score: f32) -> Built
+    ensures { λ r. ⌜ r ≡ buildOf (now (bits .entry)) width height c score ⌝ }
 {
     match geometry::estimate_version(c) {
-        Found::Is(v) => build_with(bits, width, height, c, v),
+        Found::Is(v) => build_with(bits, width, height, c, score, v),
         Found::Nothing => nothing_built(),
     }
 }
@@ -165,8 +172,9 @@ fn built_triples(bits: &[u8], width: u32, height: u32, t: Eight) -> Detections
     let places = ranked.at;
     let mut found = no_detections();
     for p in 0..ranked.count {
-        let c = corners_at(t, places[p]);
-        found = push(found, build_detection(bits, width, height, c));
+        let s = places[p];
+        let c = corners_at(t, s);
+        found = push(found, build_detection(bits, width, height, c, s.score));
     }
     found
 }

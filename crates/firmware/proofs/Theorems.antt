@@ -1,10 +1,11 @@
--- The bytes of at most three detections, as of those in any answer, are 367, and those of missing ones are zero. Assumes nothing.
+-- The bytes of at most three detections, as of those in any answer, are 367, and those of missing ones are zero; score and mean module are not among them.
+-- Assumes nothing.
 use mathlib.Core.Path.{_≡_, refl, ap, _∙_}
 use mathlib.Core.List.{List, [], _∷_, _++_}
 use Prim.Native.Nat.{ℕ, zero, suc, _+_, _-_, _*_, _%_, _≤_}
 use native.Mathlib.Omega.{arith}
 use lib.ListN.{length, replicate}
-use lib.Ieee.{toBits, ofBits}
+use lib.Ieee.{Float, toBits, ofBits}
 use Rattle.lists.specs.Lists.{padded, tabulate, flatMap}
 use Rattle.lists.proofs.Folds.{flatMap-append}
 use Rattle.lists.proofs.Padded.{length-padded}
@@ -23,6 +24,12 @@ use Rattle.firmware.proofs.Bytes.{length-detection}
 pub zero-bytes : detectionBytes zeroDetection ≡ replicate detectionSize 0
 unfolding detectionBytes finderBytes bytesLE tabulate flatMap toBits ofBits
 zero-bytes = refl
+
+-- a detection with another score and another mean module has the same bytes (document 02, N8: "the firmware's 367 bytes are unchanged")
+pub ungraded : (d : Detection) (score mean : Float)
+    → detectionBytes (record { finders = d .finders; marker = d .marker; version = d .version; transform = d .transform; score = score; mean = mean }) ≡ detectionBytes d
+unfolding detectionBytes
+ungraded d score mean = refl
 
 -- a table of three has 367 bytes
 pub length-firmware : (t : Detections) → length (t .at) ≡ 3 → length (firmwareBytes t) ≡ firmwareSize

@@ -4,14 +4,11 @@ use mathlib.Core.List.{List, [], _∷_, _++_, append-nil, append-assoc}
 use Prim.Native.Nat.{ℕ, suc, _+_, _≤_, _<_}
 use native.Mathlib.Numerals.{add-one}
 use native.Mathlib.Omega.{arith}
-use lib.ListN.{length, take, getD}
+use lib.ListN.{length, take, getD, length-append}
 use lib.Seq.{append-snoc, take-all}
-use lib.Ieee.{nan}
 use Rattle.lists.specs.Lists.{tabulate, flatMap}
-use Rattle.lists.proofs.Tabulate.{length-tabulate}
 use Rattle.lists.proofs.Folds.{flatMap-append, flatMap-take}
 use Rattle.transform.specs.declared.Point.{Point}
-use Rattle.transform.specs.declared.Transform.{Transform}
 use Rattle.geometry.specs.declared.Finder.{Finder}
 use Rattle.geometry.specs.declared.Marker.{Marker}
 use Rattle.geometry.specs.declared.Marker.the-variants.{At, Missing}
@@ -94,34 +91,34 @@ module _ (g : ℕ → List ℕ) where
   number-next k i o r a b c p q =
       wrote-as (spaced (tabulate k g) ++ withSpace (g k)) (spaced (tabulate (k + 1) g)) i r a c (spaced-next k) (wrote-then (spaced (tabulate k g)) (withSpace (g k)) i o r a b c p q)
 
-  line-last : (n : ℕ) → spaced (tabulate n g) ++ (g n ++ (lineFeed ∷ [])) ≡ lineText (tabulate (suc n) g)
-  unfolding tabulate lineText
-  line-last n = sym (line-split (tabulate n g) (g n ∷ []) (omega arith))
+  pub numbers-end : (n k i r : ℕ) (a b : List ℕ) → k ≡ n → Wrote (spaced (tabulate k g)) i a r b → Wrote (spaced (tabulate n g)) i a r b
+  numbers-end n k i r a b e p = wrote-as (spaced (tabulate k g)) (spaced (tabulate n g)) i r a b (ap (λ z. spaced (tabulate z g)) e) p
 
-  pub numbers-end : (n k i o r : ℕ) (a b c : List ℕ) → k ≡ n → Wrote (spaced (tabulate k g)) i a o b → Wrote (g n ++ (lineFeed ∷ [])) o b r c → Wrote (lineText (tabulate (suc n) g)) i a r c
-  numbers-end n k i o r a b c e p q =
-      let u = wrote-as (spaced (tabulate k g)) (spaced (tabulate n g)) i o a b (ap (λ z. spaced (tabulate z g)) e) p in
-      wrote-as (spaced (tabulate n g) ++ (g n ++ (lineFeed ∷ []))) (lineText (tabulate (suc n) g)) i r a c (line-last n) (wrote-then (spaced (tabulate n g)) (g n ++ (lineFeed ∷ [])) i o r a b c u q)
+-- score and mean module
+abbrev grades : Detection → List (List ℕ)
+grades d = singleText (d .score) ∷ singleText (d .mean) ∷ []
 
-eight-fields : (t : Transform) → length (numberFields t) ≡ 8
-unfolding numberFields
-eight-fields t = length-tabulate 8 (λ i. doubleText (getD (t .m) i nan))
-
-detection-is : (d : Detection) → withSpace (decimalText (d .version .0)) ++ (spaced (markerFields (d .marker)) ++ lineText (numberFields (d .transform))) ≡ detectionLine d
+detection-is : (d : Detection)
+    → withSpace (decimalText (d .version .0)) ++ (spaced (markerFields (d .marker)) ++ (spaced (numberFields (d .transform)) ++ lineText (grades d))) ≡ detectionLine d
 unfolding detectionLine spaced flatMap
 detection-is d =
     let v = decimalText (d .version .0) in
     let m = markerFields (d .marker) in
     let n = numberFields (d .transform) in
-    sym (append-assoc (withSpace v) (spaced m) (lineText n)) ∙ sym (line-split (v ∷ m) n (omega (arith, eight-fields (d .transform))))
+    let g = grades d in
+    sym (append-assoc (withSpace v) (spaced m) (spaced n ++ lineText g)) ∙ ap (λ z. spaced (v ∷ m) ++ z) (sym (line-split n g (omega arith))) ∙ sym (line-split (v ∷ m) (n ++ g) (omega (arith, length-append n g)))
 
-pub detection-wrote : (d : Detection) (i j k r : ℕ) (a b c e : List ℕ) → Wrote (decimalText (d .version .0) ++ (space ∷ [])) i a j b → Wrote (spaced (markerFields (d .marker))) j b k c
-    → Wrote (lineText (numberFields (d .transform))) k c r e → Wrote (detectionLine d) i a r e
-detection-wrote d i j k r a b c e p q s =
+pub detection-wrote : (d : Detection) (i j k l o r : ℕ) (a b c e f x : List ℕ) → Wrote (decimalText (d .version .0) ++ (space ∷ [])) i a j b → Wrote (spaced (markerFields (d .marker))) j b k c
+    → Wrote (spaced (numberFields (d .transform))) k c l e → Wrote (singleText (d .score) ++ (space ∷ [])) l e o f → Wrote (singleText (d .mean) ++ (lineFeed ∷ [])) o f r x → Wrote (detectionLine d) i a r x
+detection-wrote d i j k l o r a b c e f x p q s t u =
     let v = withSpace (decimalText (d .version .0)) in
     let m = spaced (markerFields (d .marker)) in
-    let n = lineText (numberFields (d .transform)) in
-    wrote-as (v ++ (m ++ n)) (detectionLine d) i r a e (detection-is d) (wrote-then v (m ++ n) i j r a b e p (wrote-then m n j k r b c e q s))
+    let n = spaced (numberFields (d .transform)) in
+    let g = lineText (grades d) in
+    let w3 = next (singleText (d .score)) (singleText (d .mean)) [] l o r e f x t (last (singleText (d .mean)) o r f x u) in
+    let w2 = wrote-then n g k l r c e x s w3 in
+    let w1 = wrote-then m (n ++ g) j k r b c x q w2 in
+    wrote-as (v ++ (m ++ (n ++ g))) (detectionLine d) i r a x (detection-is d) (wrote-then v (m ++ (n ++ g)) i j r a b x p w1)
 
 -- ---- a line for each of a list
 module _ {A : Type 0} (g : A → List ℕ) where

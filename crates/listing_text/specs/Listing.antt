@@ -1,8 +1,8 @@
 -- What the listing program prints for an input. Document 01: "The listing program reads width and height (two bytes each, little-endian) and gray bytes
 -- from standard input; under 4 bytes is 4, then come 1, 2, 5 for over 40,000 pixels, and 4 for too few gray bytes; extra bytes are ignored. It runs the
 -- chain on `Gray8` and prints `refused N`, or width, height, finder count, detection count; a line per finder (x, y, module as eight hexadecimal digits,
--- confirmations in decimal); a line per detection (version, alignment x and y or `-`, eight transform numbers of sixteen hexadecimal digits)."
--- Definitions only.
+-- confirmations in decimal); a line per detection (version, alignment x and y or `-`, eight transform numbers of sixteen hexadecimal digits)." Document 02,
+-- N8: "The listing's detection line ends with both", score and mean module, "eight hexadecimal digits each". Definitions only.
 use Prim.Native.Nat.{ℕ, _+_, _*_}
 use mathlib.Core.Bool.{cond}
 use mathlib.Core.List.{List, [], _∷_, _++_}
@@ -84,9 +84,10 @@ markerFields Missing = dash ∷ []
 unfoldable pub numberFields : Transform → List (List ℕ)
 numberFields t = tabulate 8 (λ i. doubleText (getD (t .m) i nan))
 
--- a detection: version, marker, transform numbers
+-- a detection: version, marker, transform numbers, score, mean module
 unfoldable pub detectionLine : Detection → List ℕ
-detectionLine d = lineText (decimalText (d .version .0) ∷ (markerFields (d .marker) ++ numberFields (d .transform)))
+detectionLine d =
+    lineText (decimalText (d .version .0) ∷ (markerFields (d .marker) ++ (numberFields (d .transform) ++ (singleText (d .score) ∷ singleText (d .mean) ∷ []))))
 
 -- ---- the text
 -- the head line, a line per finder and a line per detection
@@ -124,7 +125,7 @@ finderRoom = 48
 
 -- that no detection's line does
 abbrev pub detectionRoom : ℕ
-detectionRoom = 175
+detectionRoom = 193
 
 -- that no listing does: the head line, a line for each finder there can be and one for each of three detections
 abbrev pub listingRoom : ℕ

@@ -17,7 +17,7 @@ mod lines;
 mod pieces;
 
 // Room for any listing.
-pub const ROOM: usize = 84 + 48 * MAX_FINDERS + 175 * 3;
+pub const ROOM: usize = 84 + 48 * MAX_FINDERS + 193 * 3;
 
 fn area(width: u32, height: u32) -> u64
     ensures { λ r. ⌜ r ≡ width * height ⌝ }

@@ -16,7 +16,6 @@ ghost use Rattle.lists.specs.Lists.{flatMap};
 ghost use Rattle.finders.specs.Search.{maxFinders};
 ghost use Rattle.finders.specs.Answer.{heldIn, tableOf as findersTable};
 ghost use Rattle.candidates.specs.Candidates.{tableOf};
-ghost use Rattle.listing_text.specs.Text.{lineText};
 ghost use Rattle.listing_text.specs.Inner.{Wrote, spaced};
 ghost use Rattle.listing_text.specs.Listing.{refusedLine, headLine, finderLine, markerFields, numberFields, detectionLine, listText, detectionsIn, headRoom, finderRoom, detectionRoom, listingRoom};
 
@@ -73,19 +72,19 @@ fn put_marker(text: &mut [u8], at: u32, m: Marker) -> u32
     }
 }
 
-// The last eight fields of a detection's line.
+// The eight numbers of a transform.
 fn put_numbers(text: &mut [u8], at: u32, m: [f64; 8]) -> u32
     requires { ⌜ at < 2 ^ 30 ⌝ }
-    ensures text { λ r. ⌜ Wrote (lineText (numberFields (record { m = m }))) at (now (text .entry)) r (now (text .exit)) ⌝ }
+    ensures text { λ r. ⌜ Wrote (spaced (numberFields (record { m = m }))) at (now (text .entry)) r (now (text .exit)) ⌝ }
     ensures most { λ r. ⌜ r ≤ at + 136 ⌝ }
 {
     let mut o = at;
     let mut k = 0;
-    while k < 7 {
+    while k < 8 {
         o = put_double(text, o, m[k], SPACE);
         k += 1;
     }
-    put_double(text, o, m[7], LINE_FEED)
+    o
 }
 
 fn put_detection(text: &mut [u8], at: u32, d: Detection) -> u32
@@ -99,7 +98,9 @@ fn put_detection(text: &mut [u8], at: u32, d: Detection) -> u32
     let b = put_marker(text, a, marker);
     let t = d.transform;
     let m = t.m;
-    put_numbers(text, b, m)
+    let c = put_numbers(text, b, m);
+    let e = put_single(text, c, d.score, SPACE);
+    put_single(text, e, d.mean, LINE_FEED)
 }
 
 // A line for each finder of a table.

@@ -20,15 +20,22 @@ use Rattle.transform.specs.declared.Point.{Point}
 use Rattle.geometry.specs.declared.Finder.{Finder}
 use Rattle.finders.specs.declared.Finders.{Finders}
 use Rattle.finders.specs.Answer.{heldIn}
+use Rattle.candidates.specs.declared.Detection.{Detection}
 use Rattle.firmware.specs.Firmware.{singleBytes, finderBytes}
 use Rattle.firmware.proofs.Bytes.{length-finder}
 use Rattle.record.specs.declared.Line.{Line}
-use Rattle.record.specs.Record.{doubleAt, doublesAt, finderAt, findersAt, pointBytes, findersBytes, digitOf, byteDigits, digitsLine, mostBytes, answerLine, lineOf}
+use Rattle.record.specs.Record.{doubleAt, doublesAt, finderAt, findersAt, pointBytes, findersBytes, gradeBytes, digitOf, byteDigits, digitsLine, mostBytes, answerLine, lineOf}
 
 -- ---- numbers
 
 pub point-is : (q : Point) (i : ℕ) (l : List ℕ) → put (singleBytes (q .y)) (i + 4) (put (singleBytes (q .x)) i l) ≡ put (pointBytes q) i l
 point-is q i l = put-then 4 (singleBytes (q .x)) (singleBytes (q .y)) i (i + 4) l (length-bytes 4 (toBits binary32 (q .x))) refl
+
+pub grade-is : (d : Detection) (i : ℕ) (l : List ℕ) → put (singleBytes (d .mean)) (i + 4) (put (singleBytes (d .score)) i l) ≡ put (gradeBytes d) i l
+grade-is d i l = point-is (record { x = d .score; y = d .mean }) i l
+
+pub length-grade : (d : Detection) → length (gradeBytes d) ≡ 8
+length-grade d = length-append (singleBytes (d .score)) (singleBytes (d .mean)) ∙ rw (length-bytes 4 (toBits binary32 (d .score)), length-bytes 4 (toBits binary32 (d .mean)))
 
 pub eight-doubles : (p : List ℕ) (i : ℕ)
     → doubleAt p i ∷ doubleAt p (i + 8) ∷ doubleAt p (i + 16) ∷ doubleAt p (i + 24) ∷ doubleAt p (i + 32) ∷ doubleAt p (i + 40) ∷ doubleAt p (i + 48) ∷ doubleAt p (i + 56) ∷ [] ≡ doublesAt 8 p i

@@ -18,10 +18,11 @@ use Rattle.geometry.specs.declared.Corners.{Corners}
 use Rattle.finders.specs.declared.Finders.{Finders}
 use Rattle.finders.specs.Search.{maxFinders}
 use Rattle.finders.specs.Answer.{heldIn}
+use Rattle.candidates.specs.declared.Detection.{Detection}
 use Rattle.candidates.specs.declared.Detections.{Detections}
 use Rattle.record.specs.declared.Call.{Call}
 use Rattle.record.specs.declared.Line.{Line}
-use Rattle.firmware.specs.Firmware.{singleBytes, doubleBytes, finderBytes, firmwareBytes}
+use Rattle.firmware.specs.Firmware.{singleBytes, doubleBytes, finderBytes, detectionSize, firmwareBytes}
 
 -- ---- what stands at a place of a record
 -- f32
@@ -76,6 +77,18 @@ findersBytes t = bytesLE 1 (t .count) ++ flatMap finderBytes (heldIn t)
 -- number, count and detections
 abbrev pub detectionsBytes : ℕ → Detections → List ℕ
 detectionsBytes refusal t = refusal ∷ firmwareBytes t
+
+-- the place behind as many detections as there are
+abbrev pub gradesAt : Detections → ℕ
+gradesAt t = 2 + detectionSize * (t .count % 4)
+
+-- score, mean module
+abbrev pub gradeBytes : Detection → List ℕ
+gradeBytes d = singleBytes (d .score) ++ singleBytes (d .mean)
+
+-- those of the three places: 24 bytes
+abbrev pub gradesBytes : Detections → List ℕ
+gradesBytes t = flatMap gradeBytes (t .at)
 
 -- ---- lent slices
 -- the longest slice that is lent

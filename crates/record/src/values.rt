@@ -1,4 +1,5 @@
 // Floats, points, transforms and finders at places of records and answers.
+use candidates::Detection;
 use candidates::Detections;
 use finders::Finders;
 use geometry::Corners;
@@ -7,11 +8,11 @@ use transform::Point;
 use transform::Transform;
 ghost use mathlib.Core.Path.{_≡_};
 ghost use mathlib.Core.List.{_++_};
-ghost use Prim.Native.Nat.{_+_, _*_, _%_};
+ghost use Prim.Native.Nat.{_+_, _^_, _<_};
 ghost use lib.ListN.{length, set};
 ghost use Rattle.little_endian.specs.Bytes.{put};
-ghost use Rattle.firmware.specs.Firmware.{singleBytes, doubleBytes, finderBytes, transformBytes, detectionSize, firmwareBytes};
-ghost use Rattle.record.specs.Record.{floatAt, doubleAt, doublesAt, pointAt, transformAt, finderAt, cornersAt, findersAt, flag, pointBytes, doublesBytes, findersBytes, detectionsBytes};
+ghost use Rattle.firmware.specs.Firmware.{singleBytes, doubleBytes, finderBytes, transformBytes, firmwareBytes};
+ghost use Rattle.record.specs.Record.{floatAt, doubleAt, doublesAt, pointAt, transformAt, finderAt, cornersAt, findersAt, flag, pointBytes, doublesBytes, findersBytes, detectionsBytes, gradeBytes, gradesBytes, gradesAt};
 
 pub fn float_at(p: &[u8], at: u32) -> f32
     ensures { λ r. ⌜ r ≡ floatAt (now (p .entry)) at ⌝ }
@@ -205,12 +206,34 @@ fn put_table(out: &mut [u8], t: Detections)
     }
 }
 
-// A refusal number, the count and the detections; the place after them.
+fn put_grade(out: &mut [u8], at: u32, d: Detection)
+    requires { ⌜ at < 2 ^ 17 ⌝ }
+    ensures { λ _. ⌜ now (out .exit) ≡ put (gradeBytes d) at (now (out .entry)) ⌝ }
+{
+    put_float(out, at, d.score);
+    put_float(out, at + 4, d.mean);
+}
+
+// Score and mean module of each place.
+fn put_grades(out: &mut [u8], at: u16, t: Detections)
+    ensures { λ _. ⌜ now (out .exit) ≡ put (gradesBytes t) at (now (out .entry)) ⌝ }
+{
+    let mut k = 0;
+    while k < 3 {
+        let d = t.at[k];
+        put_grade(out, at as u32 + 8 * k as u32, d);
+        k += 1;
+    }
+}
+
+// A refusal number, the count, the detections and what they are graded by; the place after them.
 pub fn put_detections(out: &mut [u8], refusal: u8, t: Detections) -> usize
-    ensures bytes { λ _. ⌜ now (out .exit) ≡ put (detectionsBytes refusal t) 0 (now (out .entry)) ⌝ }
-    ensures next { λ r. ⌜ r ≡ 2 + detectionSize * (t .count % 4) ⌝ }
+    ensures bytes { λ _. ⌜ now (out .exit) ≡ put (gradesBytes t) (gradesAt t) (put (detectionsBytes refusal t) 0 (now (out .entry))) ⌝ }
+    ensures next { λ r. ⌜ r ≡ gradesAt t + 24 ⌝ }
 {
     little_endian::put8(out, 0, refusal);
     put_table(out, t);
-    2 + 122 * (t.count % 4)
+    let at = 2 + 122 * (t.count % 4);
+    put_grades(out, at as u16, t);
+    at + 24
 }

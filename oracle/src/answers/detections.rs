@@ -89,27 +89,30 @@ fn same_point(a: Maybe, b: Maybe) -> bool {
     bits(a) == bits(b)
 }
 
-/// The detections of a list of finders.
+/// The detections of a list of finders, held to its ranking.
 fn detections_of(bin: &Binary, list: &[Finder]) -> (Vec<Detection>, Source) {
     let (triples, odd) = ranked(list);
-    let slow = triples.iter().any(slow_triple);
+    let slow = triples.iter().any(|t| slow_triple(&t.finders));
     let own = || -> Vec<Detection> {
-        let one = |f: &[Finder; 3]| {
-            let rust = || detection_of(bin, *f);
-            asked(slow_triple(f), rust, || detection_by_rules(bin, *f)).0
+        let one = |t: &Triple| {
+            let rust = || detection_of(bin, t.finders);
+            asked(slow_triple(&t.finders), rust, || detection_by_rules(bin, t.finders)).0
         };
         triples.iter().filter_map(one).collect()
     };
-    if odd {
-        return (own(), Source::NoNumber);
-    }
-    asked(slow, || candidates_from(bin, list.to_vec()), own)
+    let (found, source) = match odd {
+        true => (own(), Source::NoNumber),
+        false => asked(slow, || candidates_from(bin, list.to_vec()), own),
+    };
+    triples_of(list, &found);
+    (found, source)
 }
 
 /// The detections of a picture whose finders are known: those of the list where it is not the Rust's.
 pub fn detections_in(bin: &Binary, list: &[Finder], source: Source) -> Vec<Detection> {
     let rust = detect_candidates(bin);
     if source != Source::Cut {
+        triples_of(list, &rust);
         return rust;
     }
     let found = detections_of(bin, list).0;
@@ -124,18 +127,19 @@ pub fn candidates_answer(function: u8, f: &mut Fields, out: &mut Bytes) -> Sourc
     let bits = f.rest();
     let number = bits_refusal(width, height, bits.len());
     if number != 0 {
-        out.u8(number).u8(0);
+        out.u8(number).detections(&[]).grades(&[]);
         return Source::Rust;
     }
     let bin = binary_of(width, height, bits);
     if function == 80 {
         let (found, source) = detections_of(&bin, &list);
-        out.u8(0).detections(&found);
+        coverage::note_grades(&list, &found);
+        out.u8(0).detections(&found).grades(&found);
         return source;
     }
     let (finders, source) = finders_of(&bin);
     let Some(list) = finders else {
-        out.u8(6).u8(0);
+        out.u8(6).detections(&[]).grades(&[]);
         return source;
     };
     let found = match (function, source) {
@@ -143,6 +147,7 @@ pub fn candidates_answer(function: u8, f: &mut Fields, out: &mut Bytes) -> Sourc
         (_, Source::Cut) => detections_in(&bin, &list, source).into_iter().take(1).collect(),
         _ => detect(&bin).into_iter().collect(),
     };
-    out.u8(0).detections(&found);
+    coverage::note_grades(&list, &found);
+    out.u8(0).detections(&found).grades(&found);
     source
 }

@@ -3,7 +3,7 @@
 
 use super::{Source, detections_in};
 use crate::coverage;
-use crate::record::{Bytes, Fields, lent};
+use crate::record::{Bytes, Fields, bytes_of, lent};
 use crate::rules::*;
 use crate::search::{answer_of, held, hits, staying};
 use lcr_decode::detect::{Detection, Finder, all_held, find_finders};
@@ -88,12 +88,6 @@ pub fn finders_of(bin: &Binary) -> (Option<Vec<Finder>>, Source) {
     ((!full).then_some(found), Source::Rust)
 }
 
-fn bytes_of(list: &[Finder]) -> Vec<u8> {
-    let mut out = Bytes::default();
-    out.finders(list);
-    out.0
-}
-
 pub fn finders_answer(function: u8, f: &mut Fields, out: &mut Bytes) -> Source {
     match function {
         32 => {
@@ -139,10 +133,11 @@ pub fn finders_answer(function: u8, f: &mut Fields, out: &mut Bytes) -> Source {
     Source::Rust
 }
 
-/// What the whole chain leaves: its number, its detections, and the eight slices.
+/// What the whole chain leaves: its number, its finders and detections, and the eight slices.
 pub struct Chained {
     pub number: u8,
     pub source: Source,
+    pub finders: Vec<Finder>,
     pub detections: Vec<Detection>,
     /// Gray, bits, denoised, means, least, greatest, edge marks, near marks.
     pub slices: [Vec<u8>; 8],
@@ -166,7 +161,7 @@ pub fn chain_of(
     let [bad, few] = picture_checks(picture.len(), width, height, stride, format);
     let number = refusal(&[zero_side(width, height), large_side(width, height), bad, few, (5, short)]);
     if number != 0 {
-        return Chained { number, source: Source::Rust, detections: Vec::new(), slices };
+        return Chained { number, source: Source::Rust, finders: Vec::new(), detections: Vec::new(), slices };
     }
     let view = ImageView::new(picture, width, height, stride, format_of(format)).unwrap();
     let gray = view.gray_buffer();
@@ -180,15 +175,16 @@ pub fn chain_of(
     }
     let (found, source) = finders_of(&clean);
     let number = if found.is_some() { 0 } else { 6 };
-    let detections = found.map_or(Vec::new(), |list| detections_in(&clean, &list, source));
-    Chained { number, source, detections, slices }
+    let detections = found.as_ref().map_or(Vec::new(), |list| detections_in(&clean, list, source));
+    Chained { number, source, finders: found.unwrap_or_default(), detections, slices }
 }
 
 pub fn chain_answer(f: &mut Fields, out: &mut Bytes) -> Source {
     let (width, height, stride, format) = (f.u32(), f.u32(), f.u32(), f.u8());
     let slices = core::array::from_fn(|_| lent(f.u32()));
     let done = chain_of(f.rest(), (width, height), stride, format, slices, true);
-    out.u8(done.number).detections(&done.detections);
+    coverage::note_grades(&done.finders, &done.detections);
+    out.u8(done.number).detections(&done.detections).grades(&done.detections);
     done.slices.iter().for_each(|s| {
         out.slice(s);
     });

@@ -49,7 +49,7 @@ fn lent_case(i: u64, rng: &mut Rng, reach: Reach) -> Record {
         2 => corners(rng),
         _ => (0..rng.whole(0, 11)).map(|_| any_finder(rng)).collect(),
     };
-    match rng.below(8) {
+    match rng.below(10) {
         0 => list.truncate(rng.below(4) as usize),
         1 if !list.is_empty() => {
             // Equal records at two places.
@@ -75,6 +75,17 @@ fn lent_case(i: u64, rng: &mut Rng, reach: Reach) -> Record {
             }
         }
         5 => list.reverse(),
+        6 if !list.is_empty() => {
+            // A triple with a module that is no number passes the pitch rule, also where nothing is built of it.
+            let first = list.len().min(8) as u64;
+            list[rng.below(first) as usize].module = rng.pick(&[0.0, -0.0, -1.0, 2.0]);
+            list[rng.below(first) as usize].module = f32::NAN;
+        }
+        7 => {
+            // Three places twice: nothing is built of those that rank first.
+            let dead: Vec<Finder> = list.iter().take(3).map(|f| Finder { module: 0.0, ..*f }).collect();
+            list.splice(0..0, dead);
+        }
         _ => (),
     }
     Record::new(80).with(|b| {
@@ -96,8 +107,10 @@ fn corners(rng: &mut Rng) -> Vec<Finder> {
         })
         .collect();
     for f in out.iter_mut() {
-        if rng.one_in(3) {
-            f.module *= rng.pick(&[0.5, 1.5, 2.0, 2.5, 1.6, 4.0, 0.25]);
+        match rng.below(6) {
+            0 | 1 => f.module *= rng.pick(&[0.5, 1.5, 2.0, 2.5, 1.6, 4.0, 0.25]),
+            2 | 3 => f.module *= rng.real(0.8, 1.25) as f32,
+            _ => (),
         }
     }
     out

@@ -22,10 +22,10 @@ nothing-built-requires c κs = search needs
 returns : tie.Need-returns
 returns c =
     let m = c .before .before .before in
-    of-version _ _ _ _ _ (m .before .estimate-version .ensures) _ _ (c .before .before .v .given .1) (c .build-with .ensures)
+    of-version _ _ _ _ _ _ (m .before .estimate-version .ensures) _ _ (c .before .before .v .given .1) (c .build-with .ensures)
 
 returns-2 : tie.Need-returns-2
-returns-2 c = of-none _ _ _ _ _ (c .before .before .before .estimate-version .ensures) _ (c .before .enum-told .given .1) (c .nothing-built .ensures)
+returns-2 c = of-none _ _ _ _ _ _ (c .before .before .before .estimate-version .ensures) _ (c .before .enum-told .given .1) (c .nothing-built .ensures)
 
 pub build-detection-spec : {M : Type 1} → statement M
 build-detection-spec =

@@ -16,7 +16,7 @@ nothing-built-requires c κs = search needs
 returns : tie.Need-returns
 returns c =
     let r = c .before .before .before in
-    rough-none _ _ _ _ _ _ (r .before .before .mean-module .ensures) _ (r .before .build-transform .ensures) (c .before .if1 .taken) _ (c .nothing-built .ensures)
+    rough-none _ _ _ _ _ _ _ (r .before .before .mean-module .ensures) _ (r .before .build-transform .ensures) (c .before .if1 .taken) _ (c .nothing-built .ensures)
 
 locate-alignment-requires : tie.Need-locate-alignment-requires
 locate-alignment-requires c κs = search needs
@@ -32,7 +32,7 @@ returns-2 c =
     let i = c .before .before .before .before .before .before .before in
     let r = i .before .before in
     let b = c .before .before .before .before in
-    fit-none _ _ _ _ _ _ (r .before .before .mean-module .ensures) _ (r .before .build-transform .ensures) (i .if1 .left) _ (b .before .locate-alignment .ensures) _ (b .build-transform2 .ensures) (c .before .if2 .taken) _ (c .nothing-built2 .ensures)
+    fit-none _ _ _ _ _ _ _ (r .before .before .mean-module .ensures) _ (r .before .build-transform .ensures) (i .if1 .left) _ (b .before .locate-alignment .ensures) _ (b .build-transform2 .ensures) (c .before .if2 .taken) _ (c .nothing-built2 .ensures)
 
 refine-alignment-requires : tie.Need-refine-alignment-requires
 refine-alignment-requires c κs = search needs
@@ -42,7 +42,7 @@ returns-3 c =
     let b = c .before .before .before .before .before .before in
     let i = b .before .before .before in
     let r = i .before .before in
-    complete _ _ _ _ _ _ (r .before .before .mean-module .ensures) _ (r .before .build-transform .ensures) (i .if1 .left) _ (b .before .locate-alignment .ensures) _ (b .build-transform2 .ensures) (c .before .before .before .if2 .left) _ (c .before .refine-alignment .ensures)
+    complete _ _ _ _ _ _ _ (r .before .before .mean-module .ensures) _ (r .before .build-transform .ensures) (i .if1 .left) _ (b .before .locate-alignment .ensures) _ (b .build-transform2 .ensures) (c .before .before .before .if2 .left) _ (c .before .refine-alignment .ensures)
 
 pub build-with-spec : {M : Type 1} → statement M
 build-with-spec =

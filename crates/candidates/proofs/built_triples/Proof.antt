@@ -30,11 +30,11 @@ few c =
     let r = c .before .before .before .before in
     omega (arith, count-few _ _ (r .ranking .ensures), c .loop-test .taken)
 
-mul-corners-at : tie.Need-mul-corners-at Inv-loop μ-loop
-mul-corners-at c = omega (arith, few c)
+mul-s : tie.Need-mul-s Inv-loop μ-loop
+mul-s c = omega (arith, few c)
 
-array-copy-out-corners-at : tie.Need-array-copy-out-corners-at Inv-loop μ-loop
-array-copy-out-corners-at c = few c
+array-copy-out-s : tie.Need-array-copy-out-s Inv-loop μ-loop
+array-copy-out-s c = few c
 
 corners-at-requires : tie.Need-corners-at-requires Inv-loop μ-loop
 corners-at-requires c κs = place-within _ _ (c .before .before .before .before .before .ranking .ensures) _ _ (c .before .loop-test .taken)
@@ -77,8 +77,8 @@ built-triples-spec =
     ranking-requires
     no-detections-requires
     loop-holds
-    mul-corners-at
-    array-copy-out-corners-at
+    mul-s
+    array-copy-out-s
     corners-at-requires
     build-detection-requires
     push-requires
