@@ -9,8 +9,8 @@ use lib.Dec.{ltb}
 use lib.Ieee.{Float, le}
 use lib.ListN.{length, getD, List·getD-eq-default}
 use borrow.Author.Tests.{ltb-true, ltb-false}
-use Rattle.lists.specs.Lists.{Each, Some, padded, flatMap}
-use Rattle.lists.proofs.Filters.{each-map, each-both, each-getD, each-among, some-map}
+use Rattle.lists.specs.Lists.{Each, Some, flatMap}
+use Rattle.lists.proofs.Filters.{each-map, each-both, each-getD, each-from, each-among, some-map}
 use Rattle.lists.proofs.Padded.{getD-padded, getD-table}
 use Rattle.lcr_core.specs.Outcome.{unless}
 use Rattle.lcr_core.specs.declared.version.Found.{Found}
@@ -89,13 +89,9 @@ module _ {A : Type 0} (score : A → Float) where
   Rising [] = Unit {0}
   Rising (x ∷ xs) = Each (NotUnder (score x)) xs × Rising xs
 
-  each-from : (P : A → Type 0) (d : A) (xs : List A) → ((q : ℕ) → q < length xs → P (getD xs q d)) → Each P xs
-  each-from P d [] h = tt
-  each-from P d (x ∷ xs) h = (h 0 (omega arith), each-from P d xs (λ q l. h (suc q) (omega arith)))
-
   rising-from : (d : A) (xs : List A) → ((p q : ℕ) → p < q → q < length xs → NotUnder (score (getD xs p d)) (getD xs q d)) → Rising xs
   rising-from d [] h = tt
-  rising-from d (x ∷ xs) h = (each-from (NotUnder (score x)) d xs (λ q l. h 0 (suc q) (omega arith) (omega arith)), rising-from d xs (λ p q l m. h (suc p) (suc q) (omega arith) (omega arith)))
+  rising-from d (x ∷ xs) h = (each-from (NotUnder (score x)) xs d (λ q l. h 0 (suc q) (omega arith) (omega arith)), rising-from d xs (λ p q l m. h (suc p) (suc q) (omega arith) (omega arith)))
 
   rising-at : (d : A) (xs : List A) (p q : ℕ) → Rising xs → p < q → q < length xs → NotUnder (score (getD xs p d)) (getD xs q d)
   rising-at d [] p q h l m = absurd (omega arith)
@@ -122,15 +118,18 @@ module _ (f : Triple → Built) (same : (t : Triple) → f t .found ≡ true →
       go true e r = (subst (λ (s : Float). Each (NotUnder scoreIn s) (builds f ts)) (sym (same t e)) above, r)
       go false e r = r
 
--- ---- no detection, as after a refusal
-pub none-graded : (fs : List Finder) → AllGraded fs (tableOf [])
-none-graded fs =
-    let z : (p : ℕ) → p < 3 → placeIn (tableOf []) p ≡ zeroDetection = λ p m. getD-table 3 zeroDetection [] p zeroDetection m in
+-- ---- a list as a table, and no detection, as after a refusal
+as-table : (fs : List Finder) (ds : List Detection) → Each (Graded fs) ds → Rising scoreIn ds → AllGraded fs (tableOf ds)
+as-table fs ds g r =
+    let at : (p : ℕ) → p < length ds → placeIn (tableOf ds) p ≡ getD ds p zeroDetection = λ p l. getD-padded 3 zeroDetection ds p zeroDetection zeroDetection l in
     record {
-      each = λ p l. absurd (omega arith);
-      never-fall = λ p q l m. absurd (omega arith);
-      none-beyond = λ p l m. (ap scoreIn (z p m), ap (λ (d : Detection). d .mean) (z p m));
+      each = λ p l. subst (Graded fs) (sym (at p l)) (each-getD (Graded fs) ds p zeroDetection g l);
+      never-fall = λ p q l m. rw (at p (omega arith), at q m) (rising-at scoreIn zeroDetection ds p q r l m);
+      none-beyond = λ p l m. let z = getD-table 3 zeroDetection ds p zeroDetection m ∙ List·getD-eq-default ds zeroDetection l in (ap scoreIn z, ap (λ (d : Detection). d .mean) z);
     }
+
+pub none-graded : (fs : List Finder) → AllGraded fs (tableOf [])
+none-graded fs = as-table fs [] tt tt
 
 -- ---- the detections of a list of finders
 module _ (bits : List ℕ) (w h : ℕ) (fs : List Finder) where
@@ -164,19 +163,8 @@ module _ (bits : List ℕ) (w h : ℕ) (fs : List Finder) where
   pub scores-never-fall : (p q : ℕ) → p < q → q < length (detectionsOf bits w h fs) → le (getD (detectionsOf bits w h fs) p zeroDetection .score) (getD (detectionsOf bits w h fs) q zeroDetection .score) ≡ true
   scores-never-fall p q l m = rising-at scoreIn zeroDetection (detectionsOf bits w h fs) p q scores-rise l m
 
-  -- as a table
-  pub table-graded : AllGraded fs (tableOf (detectionsOf bits w h fs))
-  table-graded =
-      let ds = detectionsOf bits w h fs in
-      let at : (p : ℕ) → p < length ds → placeIn (tableOf ds) p ≡ getD ds p zeroDetection = λ p l. getD-padded 3 zeroDetection ds p zeroDetection zeroDetection l in
-      record {
-        each = λ p l. subst (Graded fs) (sym (at p l)) (each-getD (Graded fs) ds p zeroDetection each-graded l);
-        never-fall = λ p q l m. rw (at p (omega arith), at q m) (scores-never-fall p q l m);
-        none-beyond = λ p l m. let z = getD-table 3 zeroDetection ds p zeroDetection m ∙ List·getD-eq-default ds zeroDetection l in (ap scoreIn z, ap (λ (d : Detection). d .mean) z);
-      }
-
   unless-graded : (n : ℕ) → AllGraded fs (tableOf (unless n [] (detectionsOf bits w h fs)))
-  unless-graded zero = table-graded
+  unless-graded zero = as-table fs (detectionsOf bits w h fs) each-graded scores-rise
   unless-graded (suc n) = none-graded fs
 
 -- ---- what the calls answer

@@ -160,6 +160,10 @@ module _ {A : Type 0} where
   each-getD P (x ∷ xs) zero d h l = h .0
   each-getD P (x ∷ xs) (suc i) d h l = each-getD P xs i d (h .1) (omega arith)
 
+  pub each-from : (P : A → Type 0) (xs : List A) (d : A) → ((i : ℕ) → i < length xs → P (getD xs i d)) → Each P xs
+  each-from P [] d h = tt
+  each-from P (x ∷ xs) d h = (h 0 (omega arith), each-from P xs d (λ i l. h (suc i) (omega arith)))
+
   pub howMany-all : (xs : List A) → howMany (λ (x : A). true) xs ≡ length xs
   unfolding howMany
   howMany-all [] = refl
