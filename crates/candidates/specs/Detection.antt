@@ -1,6 +1,6 @@
 -- What three ordered finders give when built: `build_detection` of document 000, step by step (document 01: "A ranked triple can't be built exactly where
 -- the rules of `build_detection` .. give none for its finders and the picture's bits"). In a call that isn't refused no step is (proofs/Theorems.antt).
--- Definitions only.
+-- Document 02, N8: "Each detection carries its triple's score and mean module". Definitions only.
 use mathlib.Core.Bool.{true, false, cond}
 use mathlib.Core.List.{List}
 use Prim.Native.Nat.{ℕ}
