@@ -115,17 +115,27 @@ listingOf input =
     unless n (refusedLine n) (chainText (pictureOf input) (widthOf input) (heightOf input))
 
 -- ---- the room
--- characters that no head line exceeds, nor a refusal, with twenty digits for each decimal
+-- for a number and the character after it: a decimal of twenty digits, an f32, an f64
+abbrev pub decimalRoom : ℕ
+decimalRoom = 21
+
+abbrev pub singleRoom : ℕ
+singleRoom = 9
+
+abbrev pub doubleRoom : ℕ
+doubleRoom = 17
+
+-- characters that no head line exceeds, nor a refusal
 abbrev pub headRoom : ℕ
-headRoom = 84
+headRoom = 4 * decimalRoom
 
 -- that no finder's line does
 abbrev pub finderRoom : ℕ
-finderRoom = 48
+finderRoom = 3 * singleRoom + decimalRoom
 
--- that no detection's line does
+-- that no detection's line does: version, marker, transform numbers, score and mean module
 abbrev pub detectionRoom : ℕ
-detectionRoom = 193
+detectionRoom = decimalRoom + 2 * singleRoom + 8 * doubleRoom + 2 * singleRoom
 
 -- that no listing does: the head line, a line for each finder there can be and one for each of three detections
 abbrev pub listingRoom : ℕ

@@ -17,7 +17,7 @@ ghost use Rattle.finders.specs.Search.{maxFinders};
 ghost use Rattle.finders.specs.Answer.{heldIn, tableOf as findersTable};
 ghost use Rattle.candidates.specs.Candidates.{tableOf};
 ghost use Rattle.listing_text.specs.Inner.{Wrote, spaced};
-ghost use Rattle.listing_text.specs.Listing.{refusedLine, headLine, finderLine, markerFields, numberFields, detectionLine, listText, detectionsIn, headRoom, finderRoom, detectionRoom, listingRoom};
+ghost use Rattle.listing_text.specs.Listing.{refusedLine, headLine, finderLine, markerFields, numberFields, detectionLine, listText, detectionsIn, singleRoom, doubleRoom, headRoom, finderRoom, detectionRoom, listingRoom};
 
 const SPACE: u8 = 32;
 
@@ -58,7 +58,7 @@ fn put_finder(text: &mut [u8], at: u32, f: Finder) -> u32
 fn put_marker(text: &mut [u8], at: u32, m: Marker) -> u32
     requires { ⌜ at < 2 ^ 30 ⌝ }
     ensures text { λ r. ⌜ Wrote (spaced (markerFields m)) at (now (text .entry)) r (now (text .exit)) ⌝ }
-    ensures most { λ r. ⌜ r ≤ at + 18 ⌝ }
+    ensures most { λ r. ⌜ r ≤ at + 2 * singleRoom ⌝ }
 {
     match m {
         Marker::At(p) => {
@@ -76,7 +76,7 @@ fn put_marker(text: &mut [u8], at: u32, m: Marker) -> u32
 fn put_numbers(text: &mut [u8], at: u32, m: [f64; 8]) -> u32
     requires { ⌜ at < 2 ^ 30 ⌝ }
     ensures text { λ r. ⌜ Wrote (spaced (numberFields (record { m = m }))) at (now (text .entry)) r (now (text .exit)) ⌝ }
-    ensures most { λ r. ⌜ r ≤ at + 136 ⌝ }
+    ensures most { λ r. ⌜ r ≤ at + 8 * doubleRoom ⌝ }
 {
     let mut o = at;
     let mut k = 0;

@@ -4,6 +4,7 @@ ghost use Prim.Native.Nat.{_+_, _^_, _≤_, _<_};
 ghost use lib.ListN.{length};
 ghost use Rattle.listing_text.specs.Text.{decimalText, singleText, doubleText};
 ghost use Rattle.listing_text.specs.Inner.{Wrote};
+ghost use Rattle.listing_text.specs.Listing.{decimalRoom, singleRoom, doubleRoom};
 
 // A field, and the character that follows it; the place after both.
 pub fn put_field(text: &mut [u8], at: u32, field: &[u8], end: u8) -> u32
@@ -22,7 +23,7 @@ pub fn put_field(text: &mut [u8], at: u32, field: &[u8], end: u8) -> u32
 pub fn put_decimal(text: &mut [u8], at: u32, n: u64, end: u8) -> u32
     requires { ⌜ at < 2 ^ 31 ⌝ }
     ensures text { λ r. ⌜ Wrote (decimalText n ++ (end ∷ [])) at (now (text .entry)) r (now (text .exit)) ⌝ }
-    ensures most { λ r. ⌜ r ≤ at + 21 ⌝ }
+    ensures most { λ r. ⌜ r ≤ at + decimalRoom ⌝ }
 {
     let mut digits = [0u8; 20];
     let k = io::decimal(n, &mut digits);
@@ -32,7 +33,7 @@ pub fn put_decimal(text: &mut [u8], at: u32, n: u64, end: u8) -> u32
 pub fn put_single(text: &mut [u8], at: u32, x: f32, end: u8) -> u32
     requires { ⌜ at < 2 ^ 31 ⌝ }
     ensures text { λ r. ⌜ Wrote (singleText x ++ (end ∷ [])) at (now (text .entry)) r (now (text .exit)) ⌝ }
-    ensures most { λ r. ⌜ r ≤ at + 9 ⌝ }
+    ensures most { λ r. ⌜ r ≤ at + singleRoom ⌝ }
 {
     let mut digits = [0u8; 16];
     let k = io::hex(float::bits32(x) as u64, 8, &mut digits);
@@ -42,7 +43,7 @@ pub fn put_single(text: &mut [u8], at: u32, x: f32, end: u8) -> u32
 pub fn put_double(text: &mut [u8], at: u32, x: f64, end: u8) -> u32
     requires { ⌜ at < 2 ^ 31 ⌝ }
     ensures text { λ r. ⌜ Wrote (doubleText x ++ (end ∷ [])) at (now (text .entry)) r (now (text .exit)) ⌝ }
-    ensures most { λ r. ⌜ r ≤ at + 17 ⌝ }
+    ensures most { λ r. ⌜ r ≤ at + doubleRoom ⌝ }
 {
     let mut digits = [0u8; 16];
     let k = io::hex(float::bits64(x), 16, &mut digits);
