@@ -142,7 +142,7 @@ fn replayed(function: u8, name: &str, group: &str, seed: u64, cases: u64, met: &
                 continue;
             }
             row.count(expected.source);
-            met.note(function, &expected.bytes);
+            met.note(record, &expected.bytes);
             if got != text {
                 row.mismatches += 1;
                 keep(&row, record, &text, &got);

@@ -1,6 +1,8 @@
 //! What the cases reached, by the expected answers and by the hits of the finder searches.
 
 use crate::differences::triples_of;
+use crate::lenses::Lenses;
+use crate::record::Record;
 use crate::rules::{End, Run, graded};
 use crate::search::{Hit, answer_of, limit_of};
 use lcr_decode::detect::{Detection, Finder};
@@ -16,10 +18,13 @@ pub struct Coverage {
     markers: u64,
     passed: u64,
     ends: [u64; 3],
+    lenses: Lenses,
 }
 
 impl Coverage {
-    pub fn note(&mut self, function: u8, answer: &[u8]) {
+    pub fn note(&mut self, record: &Record, answer: &[u8]) {
+        let function = record.function;
+        self.lenses.note(record, answer);
         let numbered = matches!(function, 1..=3 | 16..=18 | 32..=34 | 58 | 64..=67 | 80..=82 | 96);
         if numbered {
             self.refusals[answer[0] as usize] += 1;
@@ -56,6 +61,7 @@ impl Coverage {
             println!("answers of {function} by detections: {}", list(counts));
         }
         println!("detections by version: {}; with a marker: {}", list(&self.detections), self.markers);
+        self.lenses.print();
         GRADES.with_borrow(|g| g.print());
         SEARCHES.with_borrow(|s| s.print());
     }

@@ -4,11 +4,11 @@ use crate::answers::{Source, detections_in, finders_of};
 use crate::cases::{false_plate, full_table, scene, walls};
 use crate::compare::Row;
 use crate::picture::{finder_grid, ringed};
+use crate::record::built_numbers;
 use crate::rng::Rng;
 use crate::rules::graded;
 use lcr_decode::detect::{Detection, Finder};
 use lcr_decode::image::binarize;
-use lcr_decode::transform::numbers_of;
 use std::fmt::Write as _;
 use std::io::Write as _;
 use std::process::{Command, Stdio};
@@ -32,7 +32,7 @@ fn detection_line(d: &Detection) -> String {
         Some((x, y)) => format!("{} {}", digits32(x), digits32(y)),
         None => "-".to_string(),
     };
-    let numbers: Vec<String> = numbers_of(&d.transform).iter().map(|v| digits64(*v)).collect();
+    let numbers: Vec<String> = built_numbers(&d.transform).iter().map(|v| digits64(*v)).collect();
     let (score, mean) = graded(d);
     format!("{} {marker} {} {} {}\n", d.version.get(), numbers.join(" "), digits32(score), digits32(mean))
 }

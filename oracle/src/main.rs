@@ -6,6 +6,7 @@ mod compare;
 mod coverage;
 mod differences;
 mod exposures;
+mod lenses;
 mod listing;
 mod picture;
 mod plate;
@@ -64,7 +65,7 @@ fn vectors(folder: &str, seed: u64) {
             for i in 0..cases {
                 let record = cases::case(*function, i, &mut rng, Reach::Sample);
                 let answer = answers::answer(&record).bytes;
-                met.note(*function, &answer);
+                met.note(&record, &answer);
                 records.extend(record.encoded());
                 lines += &compare::hex(&answer);
                 lines.push('\n');

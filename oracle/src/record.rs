@@ -2,10 +2,10 @@
 
 use crate::rules::graded;
 use lcr_decode::detect::{Detection, Finder};
-use lcr_decode::transform::{numbers_of, transform_of};
+use lcr_decode::transform::{Transform, lens_of, lens_transform_of, numbers_of, transform_of};
 
 /// The functions by number, with their group.
-pub const FUNCTIONS: [(u8, &str, &str); 35] = [
+pub const FUNCTIONS: [(u8, &str, &str); 36] = [
     (1, "Version::new", "core"),
     (2, "Version::side", "core"),
     (3, "Version::modules", "core"),
@@ -33,6 +33,7 @@ pub const FUNCTIONS: [(u8, &str, &str); 35] = [
     (56, "order_finders", "geometry"),
     (57, "estimate_version", "geometry"),
     (58, "build_transform", "geometry"),
+    (59, "Transform::with_radial", "geometry"),
     (64, "find_alignment", "alignment"),
     (65, "match_alignment", "alignment"),
     (66, "locate_alignment", "alignment"),
@@ -138,6 +139,11 @@ impl Bytes {
         m.iter().fold(self, |out, v| out.f64(*v))
     }
 
+    /// Floats of a payload by their bits, a not-a-number as it is.
+    pub fn bits(&mut self, m: &[f64]) -> &mut Bytes {
+        m.iter().fold(self, |out, v| out.u64(v.to_bits()))
+    }
+
     /// A flag and a value, zero where there is none.
     pub fn maybe_point(&mut self, p: Option<(f32, f32)>) -> &mut Bytes {
         self.u8(p.is_some() as u8).point(p.unwrap_or((0.0, 0.0)))
@@ -147,10 +153,20 @@ impl Bytes {
         self.u8(m.is_some() as u8).numbers(&m.unwrap_or(vec![0.0; n]))
     }
 
+    /// A flag and the 64 bytes of a transform built from points.
+    pub fn maybe_transform(&mut self, t: Option<Transform>) -> &mut Bytes {
+        self.maybe_numbers(t.map(|t| built_numbers(&t).to_vec()), 8)
+    }
+
+    /// 88 bytes: the eight numbers and the lens terms.
+    pub fn lens_transform(&mut self, t: &Transform) -> &mut Bytes {
+        self.numbers(&numbers_of(t)).numbers(&lens_of(t))
+    }
+
     /// 122 bytes: three finders, version, marker, transform.
     pub fn detection(&mut self, d: &Detection) -> &mut Bytes {
         self.finders(&d.finders).u8(d.version.get()).maybe_point(d.alignment);
-        self.numbers(&numbers_of(&d.transform))
+        self.numbers(&built_numbers(&d.transform))
     }
 
     pub fn detections(&mut self, list: &[Detection]) -> &mut Bytes {
@@ -169,6 +185,12 @@ impl Bytes {
             bytes.iter().fold(0xcbf2_9ce4_8422_2325u64, |h, b| (h ^ *b as u64).wrapping_mul(0x100_0000_01b3));
         self.u32(bytes.len() as u32).u64(hash)
     }
+}
+
+/// The eight numbers of a transform built from points. They don't show its lens terms, which are held to 0 here.
+pub fn built_numbers(t: &Transform) -> [f64; 8] {
+    assert_eq!(lens_of(t).map(f64::to_bits), [0; 3], "the lens terms of a transform built from points");
+    numbers_of(t)
 }
 
 /// The bytes of finders, by which they are held to others.
@@ -237,7 +259,11 @@ impl<'a> Fields<'a> {
         core::array::from_fn(|_| self.f64())
     }
 
-    pub fn transform(&mut self) -> lcr_decode::transform::Transform {
+    pub fn transform(&mut self) -> Transform {
         transform_of(self.numbers())
+    }
+
+    pub fn lens_transform(&mut self) -> Transform {
+        lens_transform_of(self.numbers(), self.numbers())
     }
 }

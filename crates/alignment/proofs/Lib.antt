@@ -10,3 +10,5 @@ pub mod Raised
 pub mod Halves
 pub mod Colours
 pub mod Theorems
+pub mod Alike
+pub mod Lenses

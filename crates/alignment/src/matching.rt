@@ -1,6 +1,7 @@
 // The three sweeps, and the marker at the best site.
 use super::template::Site;
-use super::template::module_is_dark;
+use super::template::bent_is_dark;
+use super::template::plain_is_dark;
 use super::template::sweep;
 use geometry::Marker;
 use lcr_core::version::Version;
@@ -34,11 +35,12 @@ fn colour(bits: &[u8], width: u16, height: u16, t: Transform, n: u16, k: u16) ->
 {
     let x = half_of(n + k % 21);
     let y = half_of(n + k / 21);
-    if module_is_dark(bits, width, height, t, x, y) {
-        1
+    let dark = if t.strength == 0.0 {
+        plain_is_dark(bits, width, height, t, x, y)
     } else {
-        0
-    }
+        bent_is_dark(bits, width, height, t, x, y)
+    };
+    if dark { 1 } else { 0 }
 }
 
 // All of them.

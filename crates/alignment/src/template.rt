@@ -8,6 +8,7 @@ ghost use Prim.Native.Nat.{_+_, _*_, _≤_, _<_};
 ghost use Rattle.lists.specs.Lists.{dist};
 ghost use Rattle.float.specs.Steps.{plus32};
 ghost use Rattle.transform.specs.Apply.{applied};
+ghost use Rattle.transform.specs.Fit.{plain};
 ghost use Rattle.alignment.specs.Template.{outsideOf, pixelAt, tapped, moduleDark, wantDark, less, agree, scoreOf, siteAt, betterOf, sweepBest};
 ghost use Rattle.alignment.specs.Counting.{Counted, UpTo, leastOf};
 ghost use Rattle.alignment.specs.Known.{KnownAt, Known};
@@ -63,8 +64,17 @@ fn tap_at(bits: &[u8], width: u16, height: u16, p: Point, v: Votes) -> Votes
     }
 }
 
-// The same at (x, y) in modules.
-fn tap(bits: &[u8], width: u16, height: u16, t: Transform, x: f32, y: f32, v: Votes) -> Votes
+// The same at (x, y) in modules, without a lens.
+fn plain_tap(bits: &[u8], width: u16, height: u16, t: Transform, x: f32, y: f32, v: Votes) -> Votes
+    requires { ⌜ (v .seen ≤ 4) × (v .dark ≤ v .seen) ⌝ }
+    ensures { λ r. ⌜ r ≡ tapped (now (bits .entry)) width height v (applied (plain (t .m)) x y) ⌝ }
+    ensures { λ r. ⌜ Counted v r ⌝ }
+{
+    tap_at(bits, width, height, t.place(x, y), v)
+}
+
+// The same through the lens, if there is one.
+fn bent_tap(bits: &[u8], width: u16, height: u16, t: Transform, x: f32, y: f32, v: Votes) -> Votes
     requires { ⌜ (v .seen ≤ 4) × (v .dark ≤ v .seen) ⌝ }
     ensures { λ r. ⌜ r ≡ tapped (now (bits .entry)) width height v (applied t x y) ⌝ }
     ensures { λ r. ⌜ Counted v r ⌝ }
@@ -72,22 +82,36 @@ fn tap(bits: &[u8], width: u16, height: u16, t: Transform, x: f32, y: f32, v: Vo
     tap_at(bits, width, height, t.apply(x, y), v)
 }
 
-// Whether most of the five taps that lie in the picture are dark. Where the first three agree, they decide.
-pub fn module_is_dark(bits: &[u8], width: u16, height: u16, t: Transform, x: f32, y: f32) -> bool
-    ensures { λ r. ⌜ r ≡ moduleDark (now (bits .entry)) width height t x y ⌝ }
+// Whether most of the five taps that lie in the picture are dark, without a lens: the way of every detection, so it is the fast one. Where the first three
+// agree, they decide.
+pub fn plain_is_dark(bits: &[u8], width: u16, height: u16, t: Transform, x: f32, y: f32) -> bool
+    ensures { λ r. ⌜ r ≡ moduleDark (now (bits .entry)) width height (plain (t .m)) x y ⌝ }
 {
     let none = Votes { seen: 0, dark: 0 };
-    let a = tap(bits, width, height, t, x + 0.0, y + 0.0, none);
-    let b = tap(bits, width, height, t, x + -0.25, y + 0.0, a);
-    let c = tap(bits, width, height, t, x + 0.25, y + 0.0, b);
+    let a = plain_tap(bits, width, height, t, x + 0.0, y + 0.0, none);
+    let b = plain_tap(bits, width, height, t, x + -0.25, y + 0.0, a);
+    let c = plain_tap(bits, width, height, t, x + 0.25, y + 0.0, b);
     if c.dark == 3 {
         return true;
     }
     if c.seen == c.dark + 3 {
         return false;
     }
-    let d = tap(bits, width, height, t, x + 0.0, y + -0.25, c);
-    let e = tap(bits, width, height, t, x + 0.0, y + 0.25, d);
+    let d = plain_tap(bits, width, height, t, x + 0.0, y + -0.25, c);
+    let e = plain_tap(bits, width, height, t, x + 0.0, y + 0.25, d);
+    e.dark * 2 > e.seen
+}
+
+// The same through the lens, if there is one: all five are asked.
+pub fn bent_is_dark(bits: &[u8], width: u16, height: u16, t: Transform, x: f32, y: f32) -> bool
+    ensures { λ r. ⌜ r ≡ moduleDark (now (bits .entry)) width height t x y ⌝ }
+{
+    let none = Votes { seen: 0, dark: 0 };
+    let a = bent_tap(bits, width, height, t, x + 0.0, y + 0.0, none);
+    let b = bent_tap(bits, width, height, t, x + -0.25, y + 0.0, a);
+    let c = bent_tap(bits, width, height, t, x + 0.25, y + 0.0, b);
+    let d = bent_tap(bits, width, height, t, x + 0.0, y + -0.25, c);
+    let e = bent_tap(bits, width, height, t, x + 0.0, y + 0.25, d);
     e.dark * 2 > e.seen
 }
 
@@ -135,10 +159,15 @@ fn sees_dark(
     requires { ⌜ (i < 5) × (j < 5) × KnownAt (now bits) width height t x y (now colours) at ⌝ }
     ensures { λ r. ⌜ r ≡ moduleDark (now (bits .entry)) width height t (plus32 x (less i 2)) (plus32 y (less j 2)) ⌝ }
 {
-    if colours.len() == 0 {
-        return module_is_dark(bits, width, height, t, x + offset(i, 2), y + offset(j, 2));
+    if colours.len() != 0 {
+        return colours[at as usize + 2 * i as usize + 42 * j as usize] == 1;
     }
-    colours[at as usize + 2 * i as usize + 42 * j as usize] == 1
+    let u = x + offset(i, 2);
+    let v = y + offset(j, 2);
+    if t.strength == 0.0 {
+        return plain_is_dark(bits, width, height, t, u, v);
+    }
+    bent_is_dark(bits, width, height, t, u, v)
 }
 
 // 1 where module k of the marker centred at (x, y) has its colour.

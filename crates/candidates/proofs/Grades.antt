@@ -68,10 +68,10 @@ module _ (bits : List ℕ) (w h : ℕ) (c : Corners) (s : Float) where
 -- ---- what triples give, those that can't be built left out
 module _ (f : Triple → Built) where
   -- the detections of ts
-  abbrev builds : List Triple → List Detection
+  abbrev pub builds : List Triple → List Detection
   builds ts = flatMap (λ (t : Triple). kept (f t)) ts
 
-  each-kept : (P : Detection → Type 0) (ts : List Triple) → Each (λ (t : Triple). f t .found ≡ true → P (f t .detection)) ts → Each P (builds ts)
+  pub each-kept : (P : Detection → Type 0) (ts : List Triple) → Each (λ (t : Triple). f t .found ≡ true → P (f t .detection)) ts → Each P (builds ts)
   unfolding flatMap
   each-kept P [] h = tt
   each-kept P (t ∷ ts) h = go (f t .found) refl (each-kept P ts (h .1))

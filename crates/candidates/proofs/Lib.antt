@@ -5,4 +5,5 @@ pub mod Answers
 pub mod Tails
 pub mod Theorems
 pub mod Grades
+pub mod Lenses
 pub mod Published

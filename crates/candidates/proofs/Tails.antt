@@ -3,7 +3,7 @@
 use mathlib.Core.Path.{_≡_, refl, sym, ap, _∙_, fun-ext}
 use mathlib.Core.Bool.{Bool, true, false, not, cond, _&&_}
 use mathlib.Core.List.{List, [], _∷_}
-use Prim.Native.Nat.{ℕ, zero, suc, _+_, _-_, _*_, _/_, _%_, _≤_, _<_, min}
+use Prim.Native.Nat.{ℕ, zero, suc, _+_, _-_, _*_, _/_, _≤_, _<_, min}
 use native.Mathlib.Omega.{arith}
 use lib.Dec.{ltb}
 use lib.Ieee.{Float, toUnsigned, toSigned}
@@ -11,8 +11,7 @@ use lib.ListN.{length, take, length-take}
 use lib.Seq.{getD-take}
 use borrow.Author.Tests.{ltb-true, ltb-false, lt-ltb, le-ltb}
 use Rattle.float.specs.Steps.{plus32}
-use Rattle.float.specs.Constants.{half, f1/8, f1/32}
-use Rattle.lists.specs.Lists.{Each, range, folded, sumTo, flatMap}
+use Rattle.lists.specs.Lists.{Each, range, folded, flatMap}
 use Rattle.lists.proofs.Folds.{each-range}
 use Rattle.lists.proofs.Numbers.{row-within}
 use Rattle.binary.specs.Binary.{darkBit, darkAt, bytesOf}
@@ -48,9 +47,9 @@ use Rattle.rows.specs.declared.Located.{Located}
 use Rattle.rows.specs.declared.window.Window.{Window}
 use Rattle.alignment.specs.declared.Refined.{Refined}
 use Rattle.alignment.specs.declared.template.Votes.{Votes}
-use Rattle.alignment.specs.declared.template.Site.{Site}
-use Rattle.alignment.specs.Template.{taps, noVotes, pixelAt, tapped, moduleDark, agree, scoreOf, siteAt, betterOf, along, noSite, sweepBest, bestOf, centreOf, matchedOf}
+use Rattle.alignment.specs.Template.{taps, noVotes, pixelAt, tapped, moduleDark, centreOf, matchedOf}
 use Rattle.alignment.specs.Alignment.{alignmentRefusal, orElse, searchedOf, locatedOf, locateOf, rebuiltOf, refined, refineOf}
+use Rattle.alignment.proofs.Alike.{best-alike}
 use Rattle.ranking.specs.declared.Triple.{Triple}
 use Rattle.ranking.specs.Ranking.{ranked as rankedTriples}
 use Rattle.candidates.specs.declared.Detection.{Detection}
@@ -286,34 +285,9 @@ module _ (a b : List ℕ) (w h : ℕ) (same : (k : ℕ) → k < w * h → darkBi
     module-same x y =
         ap (λ (f : Votes → Point → Votes). let v = folded (λ (v : Votes) (o : Point). f v (applied t (plus32 x (o .x)) (plus32 y (o .y)))) noVotes taps in ltb (v .seen) (v .dark * 2)) taps-alike
 
-    agree-same : (x y : Float) (k : ℕ) → agree a w h t x y k ≡ agree b w h t x y k
-    unfolding agree
-    agree-same x y k = rw (module-same _ _)
-
-    score-same : (x y : Float) → scoreOf a w h t x y ≡ scoreOf b w h t x y
-    unfolding scoreOf
-    score-same x y = ap (sumTo 25) (fun-ext (λ k. agree-same x y k))
-
-    site-same : (c x y : Float) → siteAt a w h t c x y ≡ siteAt b w h t c x y
-    unfolding siteAt
-    site-same c x y = rw (score-same (plus32 c x) (plus32 c y))
-
-    sweep-same : (c : Float) (m : ℕ) (step : Float) (best : Site) → sweepBest a w h t c m step best ≡ sweepBest b w h t c m step best
-    unfolding sweepBest
-    sweep-same c m step best =
-        ap (λ (f : ℕ → Site). folded (λ (s : Site) (k : ℕ). betterOf s (f k)) best (range 0 (m * m)))
-        (fun-ext (λ k. site-same c (along m step (best .x) (k % m)) (along m step (best .y) (k / m))))
-
-    best-same : (c : Float) → bestOf a w h t c ≡ bestOf b w h t c
-    unfolding bestOf
-    best-same c =
-        let s = sweepBest b w h t c 13 half noSite in
-        let u = sweepBest b w h t c 9 f1/8 s in
-        rw (sweep-same c 13 half noSite, sweep-same c 9 f1/8 s, sweep-same c 9 f1/32 u)
-
     matched-same : (v : ℕ) → matchedOf a w h t v ≡ matchedOf b w h t v
     unfolding matchedOf
-    matched-same v = rw (best-same (centreOf v))
+    matched-same v = rw (best-alike a b w h t t module-same (centreOf v))
 
   -- ---- what is refused for too few bytes, and what follows
   module _ (short : shortBits (length a) w h ≡ shortBits (length b) w h) where

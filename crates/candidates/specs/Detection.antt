@@ -10,7 +10,7 @@ use Rattle.lcr_core.specs.declared.version.Found.{Found}
 use Rattle.lcr_core.specs.declared.version.Found.the-variants.{Is, Nothing}
 use Rattle.transform.specs.declared.Fit.{Fit}
 use Rattle.transform.specs.declared.Transform.{Transform}
-use Rattle.transform.specs.Fit.{zeroTransform}
+use Rattle.transform.specs.Fit.{zeroTransform, Plain}
 use Rattle.geometry.specs.declared.Corners.{Corners}
 use Rattle.geometry.specs.declared.Marker.{Marker}
 use Rattle.geometry.specs.declared.Marker.the-variants.{Missing}
@@ -33,6 +33,10 @@ zeroDetection =
       score = f0;
       mean = f0;
     }
+
+-- a detection whose transform has no lens, as that of every one (proofs/Lenses.antt)
+abbrev pub WithoutLens : Detection → Type 0
+WithoutLens d = Plain (d .transform)
 
 -- no detection
 abbrev pub none : Built

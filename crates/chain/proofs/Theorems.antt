@@ -1,6 +1,6 @@
 -- Where the stages refuse nothing, the only refusal that is left to the detections of the denoised bits is 6; their bytes are 367; and where the limit ended
--- no run of a hit that document 000 confirms, they are those over document 000's finders; and of score and mean module in what the chain answers (document
--- 02, N8). Assumes nothing.
+-- no run of a hit that document 000 confirms, they are those over document 000's finders; and of score and mean module in what the chain answers, and of
+-- lenses, of which there are none (document 02, N8 and N12). Assumes nothing.
 use mathlib.Core.Path.{_≡_}
 use mathlib.Core.Bool.{false, cond}
 use mathlib.Core.List.{List}
@@ -9,6 +9,7 @@ use native.Mathlib.Omega.{arith}
 use lib.Dec.{ltb}
 use lib.ListN.{length}
 use borrow.Author.Tests.{le-ltb}
+use Rattle.lists.specs.Lists.{Each}
 use Rattle.lcr_core.specs.Outcome.{zeroSide, largeSide}
 use Rattle.lcr_core.proofs.Checks.{first-passes}
 use Rattle.binary.specs.Binary.{bytesOf}
@@ -17,9 +18,11 @@ use Rattle.finders.specs.Answer.{isOver, findRefusal, findersOf}
 use Rattle.finders.specs.Search.{found}
 use Rattle.finders.specs.Published.{NoneCut}
 use Rattle.candidates.specs.Candidates.{detectAnswer}
+use Rattle.candidates.specs.Detection.{WithoutLens}
 use Rattle.candidates.specs.Graded.{AllGraded}
 use Rattle.candidates.specs.Published.{publishedDetect}
 use Rattle.candidates.proofs.Grades.{none-graded, detect-graded}
+use Rattle.candidates.proofs.Lenses.{none-plain, detect-plain}
 use Rattle.candidates.proofs.Published.{uncut-detect}
 use Rattle.firmware.specs.Firmware.{firmwareBytes, firmwareSize}
 use Rattle.firmware.proofs.Theorems.{answer-bytes}
@@ -51,3 +54,9 @@ module _ (p : List ℕ) (w h s f : ℕ) where
   unfolding chainAnswer chainOf
   chain-graded zero = detect-graded (denoisedPicture p w h s f) w h
   chain-graded (suc n) = none-graded (findersOf (denoisedPicture p w h s f) w h)
+
+  -- no detection of theirs has a lens (document 02, N12), so that the eight numbers of the firmware's bytes and of the listing say all
+  pub chain-plain : (n : ℕ) → Each WithoutLens (chainAnswer n p w h s f .detections .at)
+  unfolding chainAnswer chainOf
+  chain-plain zero = detect-plain (denoisedPicture p w h s f) w h
+  chain-plain (suc n) = none-plain

@@ -1,5 +1,5 @@
--- The bytes of at most three detections, as of those in any answer, are 367, and those of missing ones are zero; score and mean module are not among them.
--- Assumes nothing.
+-- The bytes of at most three detections, as of those in any answer, are 367, and those of missing ones are zero; score, mean module and lens terms are not
+-- among them. Assumes nothing.
 use mathlib.Core.Path.{_≡_, refl, ap, _∙_}
 use mathlib.Core.List.{List, [], _∷_, _++_}
 use Prim.Native.Nat.{ℕ, zero, suc, _+_, _-_, _*_, _%_, _≤_}
@@ -30,6 +30,12 @@ pub ungraded : (d : Detection) (score mean : Float)
     → detectionBytes (record { finders = d .finders; marker = d .marker; version = d .version; transform = d .transform; score = score; mean = mean }) ≡ detectionBytes d
 unfolding detectionBytes
 ungraded d score mean = refl
+
+-- nor has one with other lens terms any other (document 02, N12: "the eight numbers only")
+pub unbent : (d : Detection) (cx cy strength : Float)
+    → detectionBytes (record { finders = d .finders; marker = d .marker; version = d .version; transform = record { m = d .transform .m; cx = cx; cy = cy; strength = strength }; score = d .score; mean = d .mean }) ≡ detectionBytes d
+unfolding detectionBytes
+unbent d cx cy strength = refl
 
 -- a table of three has 367 bytes
 pub length-firmware : (t : Detections) → length (t .at) ≡ 3 → length (firmwareBytes t) ≡ firmwareSize

@@ -1,10 +1,11 @@
--- What the definitions say of the order, the score and the version. Assumes nothing.
+-- What the definitions say of the order, the score, the version and the transform. Assumes nothing.
 use mathlib.Core.Path.{_≡_, refl, sym}
 use mathlib.Core.Logic.{_⊎_, inl, inr}
 use mathlib.Core.Bool.{Bool, true, false, cond, not, _&&_, true≢false}
 use mathlib.Core.List.{[], _∷_, map}
 use Prim.Native.Nat.{ℕ, zero, suc, _+_, _-_, _*_, _/_, _^_, _≤_, min}
 use native.Mathlib.Omega.{arith}
+use lib.Dec.{ltb}
 use lib.IntN.{ℤ, pos, negsuc, negℤ}
 use lib.Ieee.{Float, nan, inf, fin, lt, up, down, toUnsigned, toSigned, ofInt, ofBits, sub, div, round, binary32}
 use Rattle.float.specs.Floats.{isNumber, roundOf}
@@ -13,8 +14,16 @@ use Rattle.float.specs.Constants.{f0, f4, f21}
 use Rattle.geometry.specs.Order.{span2Of, isLongest, turnedOf, orderOf}
 use Rattle.geometry.specs.Score.{outByPitch, outByEdge, outByAngle, outByRatio, admissibleCorners, scoreOf, admissible}
 use Rattle.geometry.specs.Estimate.{nearestVersion}
+use Rattle.transform.specs.Fit.{Plain}
+use Rattle.transform.specs.declared.Fit.{Fit}
+use Rattle.transform.proofs.Theorems.{quad-plain, triangle-plain}
+use Rattle.lcr_core.specs.Outcome.{unless}
+use Rattle.lcr_core.specs.Version.{versionRefusal, sideOf}
+use Rattle.geometry.specs.Build.{affineOf, homographyOf, orElse, symbolFit, noFit, builtOf}
 use Rattle.geometry.specs.declared.Finder.{Finder}
 use Rattle.geometry.specs.declared.Corners.{Corners}
+use Rattle.geometry.specs.declared.Marker.{Marker}
+use Rattle.geometry.specs.declared.Marker.the-variants.{At as Found, Missing}
 
 -- ---- the corners are the three finders, none lost and none twice
 
@@ -87,3 +96,30 @@ from-1-to-32 side = omega arith
 sides : map (λ (n : ℕ). nearestVersion (whole32 n)) (23 ∷ 19 ∷ 21 ∷ 149 ∷ []) ≡ 2 ∷ 1 ∷ 1 ∷ 32 ∷ []
 unfolding nearestVersion roundOf toUnsigned ofInt ofBits sub div round
 sides = refl
+
+-- ---- "transforms built from finders have strength 0" (document 02, N12) and centre 0, as what a refusal leaves
+module _ (c : Corners) where
+  affine-plain : (side : Float) → Plain (affineOf c side .transform)
+  unfolding affineOf
+  affine-plain side = triangle-plain _ _
+
+  either-plain : (b : Bool) (f g : Fit) → Plain (f .transform) → Plain (g .transform) → Plain (cond b f g .transform)
+  either-plain true f g p q = p
+  either-plain false f g p q = q
+
+  fit-plain : (a : Marker) (v : ℕ) → Plain (symbolFit c a v .transform)
+  unfolding symbolFit homographyOf
+  fit-plain Missing v = affine-plain (whole32 (sideOf v))
+  fit-plain (Found p) v =
+      let side = whole32 (sideOf v) in
+      let h = homographyOf c p side in
+      let g = affineOf c side in
+      either-plain (ltb v 2) g (orElse h g) (affine-plain side) (either-plain (h .found) h g (quad-plain _ _) (affine-plain side))
+
+  pub built-plain : (a : Marker) (v : ℕ) → Plain (builtOf c a v .fit .transform)
+  unfolding builtOf
+  built-plain a v = go (versionRefusal v)
+    where
+      go : (n : ℕ) → Plain (unless n noFit (symbolFit c a v) .transform)
+      go zero = fit-plain a v
+      go (suc n) = refl

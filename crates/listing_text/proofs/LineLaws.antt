@@ -99,21 +99,21 @@ abbrev grades : Detection → List (List ℕ)
 grades d = singleText (d .score) ∷ singleText (d .mean) ∷ []
 
 detection-is : (d : Detection)
-    → withSpace (decimalText (d .version .0)) ++ (spaced (markerFields (d .marker)) ++ (spaced (numberFields (d .transform)) ++ lineText (grades d))) ≡ detectionLine d
+    → withSpace (decimalText (d .version .0)) ++ (spaced (markerFields (d .marker)) ++ (spaced (numberFields (d .transform .m)) ++ lineText (grades d))) ≡ detectionLine d
 unfolding detectionLine spaced flatMap
 detection-is d =
     let v = decimalText (d .version .0) in
     let m = markerFields (d .marker) in
-    let n = numberFields (d .transform) in
+    let n = numberFields (d .transform .m) in
     let g = grades d in
     sym (append-assoc (withSpace v) (spaced m) (spaced n ++ lineText g)) ∙ ap (λ z. spaced (v ∷ m) ++ z) (sym (line-split n g (omega arith))) ∙ sym (line-split (v ∷ m) (n ++ g) (omega (arith, length-append n g)))
 
 pub detection-wrote : (d : Detection) (i j k l o r : ℕ) (a b c e f x : List ℕ) → Wrote (decimalText (d .version .0) ++ (space ∷ [])) i a j b → Wrote (spaced (markerFields (d .marker))) j b k c
-    → Wrote (spaced (numberFields (d .transform))) k c l e → Wrote (singleText (d .score) ++ (space ∷ [])) l e o f → Wrote (singleText (d .mean) ++ (lineFeed ∷ [])) o f r x → Wrote (detectionLine d) i a r x
+    → Wrote (spaced (numberFields (d .transform .m))) k c l e → Wrote (singleText (d .score) ++ (space ∷ [])) l e o f → Wrote (singleText (d .mean) ++ (lineFeed ∷ [])) o f r x → Wrote (detectionLine d) i a r x
 detection-wrote d i j k l o r a b c e f x p q s t u =
     let v = withSpace (decimalText (d .version .0)) in
     let m = spaced (markerFields (d .marker)) in
-    let n = spaced (numberFields (d .transform)) in
+    let n = spaced (numberFields (d .transform .m)) in
     let g = lineText (grades d) in
     let w3 = next (singleText (d .score)) (singleText (d .mean)) [] l o r e f x t (last (singleText (d .mean)) o r f x u) in
     let w2 = wrote-then n g k l r c e x s w3 in

@@ -8,14 +8,13 @@ use mathlib.Core.Bool.{cond}
 use mathlib.Core.List.{List, [], _∷_, _++_}
 use lib.Dec.{ltb}
 use lib.ListN.{length, take, drop, getD}
-use lib.Ieee.{nan}
+use lib.Ieee.{Float, nan}
 use Rattle.lists.specs.Lists.{tabulate, flatMap}
 use Rattle.little_endian.specs.Bytes.{readLE}
 use Rattle.lcr_core.specs.Outcome.{firstOf, unless, zeroSide, largeSide}
 use Rattle.lcr_core.specs.declared.Outcome.the-variants.{ZeroSide, LargeSide, ShortPicture, ShortOutput}
 use Rattle.image.specs.declared.PixelFormat.the-variants.{Gray8}
 use Rattle.image.specs.Gray.{channelsOf}
-use Rattle.transform.specs.declared.Transform.{Transform}
 use Rattle.geometry.specs.declared.Finder.{Finder}
 use Rattle.geometry.specs.declared.Marker.{Marker}
 use Rattle.geometry.specs.declared.Marker.the-variants.{At, Missing}
@@ -80,14 +79,14 @@ unfoldable pub markerFields : Marker → List (List ℕ)
 markerFields (At p) = singleText (p .x) ∷ singleText (p .y) ∷ []
 markerFields Missing = dash ∷ []
 
--- the eight transform numbers
-unfoldable pub numberFields : Transform → List (List ℕ)
-numberFields t = tabulate 8 (λ i. doubleText (getD (t .m) i nan))
+-- the eight transform numbers; document 02, N12: "The listing prints the eight numbers only", no lens terms
+unfoldable pub numberFields : List Float → List (List ℕ)
+numberFields m = tabulate 8 (λ i. doubleText (getD m i nan))
 
 -- a detection: version, marker, transform numbers, score, mean module
 unfoldable pub detectionLine : Detection → List ℕ
 detectionLine d =
-    lineText (decimalText (d .version .0) ∷ (markerFields (d .marker) ++ (numberFields (d .transform) ++ (singleText (d .score) ∷ singleText (d .mean) ∷ []))))
+    lineText (decimalText (d .version .0) ∷ (markerFields (d .marker) ++ (numberFields (d .transform .m) ++ (singleText (d .score) ∷ singleText (d .mean) ∷ []))))
 
 -- ---- the text
 -- the head line, a line per finder and a line per detection

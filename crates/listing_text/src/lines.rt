@@ -75,7 +75,7 @@ fn put_marker(text: &mut [u8], at: u32, m: Marker) -> u32
 // The eight numbers of a transform.
 fn put_numbers(text: &mut [u8], at: u32, m: [f64; 8]) -> u32
     requires { ⌜ at < 2 ^ 30 ⌝ }
-    ensures text { λ r. ⌜ Wrote (spaced (numberFields (record { m = m }))) at (now (text .entry)) r (now (text .exit)) ⌝ }
+    ensures text { λ r. ⌜ Wrote (spaced (numberFields m)) at (now (text .entry)) r (now (text .exit)) ⌝ }
     ensures most { λ r. ⌜ r ≤ at + 8 * doubleRoom ⌝ }
 {
     let mut o = at;

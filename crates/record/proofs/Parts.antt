@@ -17,14 +17,15 @@ use Rattle.little_endian.specs.Bytes.{bytesLE, put}
 use Rattle.little_endian.proofs.Pieces.{put-then, length-flat}
 use Rattle.little_endian.proofs.Round.{length-bytes}
 use Rattle.transform.specs.declared.Point.{Point}
+use Rattle.transform.specs.declared.Transform.{Transform}
 use Rattle.geometry.specs.declared.Finder.{Finder}
 use Rattle.finders.specs.declared.Finders.{Finders}
 use Rattle.finders.specs.Answer.{heldIn}
 use Rattle.candidates.specs.declared.Detection.{Detection}
-use Rattle.firmware.specs.Firmware.{singleBytes, finderBytes}
-use Rattle.firmware.proofs.Bytes.{length-finder}
+use Rattle.firmware.specs.Firmware.{singleBytes, doubleBytes, finderBytes, transformBytes}
+use Rattle.firmware.proofs.Bytes.{length-double, length-finder, length-transform}
 use Rattle.record.specs.declared.Line.{Line}
-use Rattle.record.specs.Record.{doubleAt, doublesAt, finderAt, findersAt, pointBytes, findersBytes, gradeBytes, digitOf, byteDigits, digitsLine, mostBytes, answerLine, lineOf}
+use Rattle.record.specs.Record.{doubleAt, doublesAt, finderAt, findersAt, pointBytes, lensBytes, findersBytes, gradeBytes, digitOf, byteDigits, digitsLine, mostBytes, answerLine, lineOf}
 
 -- ---- numbers
 
@@ -36,6 +37,16 @@ grade-is d i l = point-is (record { x = d .score; y = d .mean }) i l
 
 pub length-grade : (d : Detection) → length (gradeBytes d) ≡ 8
 length-grade d = length-append (singleBytes (d .score)) (singleBytes (d .mean)) ∙ rw (length-bytes 4 (toBits binary32 (d .score)), length-bytes 4 (toBits binary32 (d .mean)))
+
+pub lens-is : (t : Transform) (i : ℕ) (l : List ℕ)
+    → put (doubleBytes (t .strength)) (i + 80) (put (doubleBytes (t .cy)) (i + 72) (put (doubleBytes (t .cx)) (i + 64) (put (transformBytes t) i l))) ≡ put (lensBytes t) i l
+lens-is t i l =
+    let x = doubleBytes (t .cx) in
+    let y = doubleBytes (t .cy) in
+    let k = doubleBytes (t .strength) in
+    let m = put (transformBytes t) i l in
+    put-then 8 y k (i + 72) (i + 80) (put x (i + 64) m) (length-double (t .cy)) (omega arith) ∙ put-then 8 x (y ++ k) (i + 64) (i + 72) m (length-double (t .cx)) (omega arith)
+    ∙ put-then 64 (transformBytes t) (x ++ (y ++ k)) i (i + 64) l (length-transform t) refl
 
 pub eight-doubles : (p : List ℕ) (i : ℕ)
     → doubleAt p i ∷ doubleAt p (i + 8) ∷ doubleAt p (i + 16) ∷ doubleAt p (i + 24) ∷ doubleAt p (i + 32) ∷ doubleAt p (i + 40) ∷ doubleAt p (i + 48) ∷ doubleAt p (i + 56) ∷ [] ≡ doublesAt 8 p i

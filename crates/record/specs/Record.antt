@@ -13,6 +13,7 @@ use Rattle.lists.specs.Lists.{tabulate, flatMap, folded}
 use Rattle.little_endian.specs.Bytes.{bytesLE, readLE, put}
 use Rattle.transform.specs.declared.Point.{Point}
 use Rattle.transform.specs.declared.Transform.{Transform}
+use Rattle.transform.specs.Fit.{plain}
 use Rattle.geometry.specs.declared.Finder.{Finder}
 use Rattle.geometry.specs.declared.Corners.{Corners}
 use Rattle.finders.specs.declared.Finders.{Finders}
@@ -22,7 +23,7 @@ use Rattle.candidates.specs.declared.Detection.{Detection}
 use Rattle.candidates.specs.declared.Detections.{Detections}
 use Rattle.record.specs.declared.Call.{Call}
 use Rattle.record.specs.declared.Line.{Line}
-use Rattle.firmware.specs.Firmware.{singleBytes, doubleBytes, finderBytes, detectionSize, firmwareBytes}
+use Rattle.firmware.specs.Firmware.{singleBytes, doubleBytes, finderBytes, transformBytes, detectionSize, firmwareBytes}
 
 -- ---- what stands at a place of a record
 -- f32
@@ -43,7 +44,11 @@ pointAt p i = record { x = floatAt p i; y = floatAt p (i + 4) }
 
 -- transform: the eight numbers
 abbrev pub transformAt : List ℕ → ℕ → Transform
-transformAt p i = record { m = doublesAt 8 p i }
+transformAt p i = plain (doublesAt 8 p i)
+
+-- lens transform: the eight numbers, cx, cy, strength
+abbrev pub lensAt : List ℕ → ℕ → Transform
+lensAt p i = record { m = doublesAt 8 p i; cx = doubleAt p (i + 64); cy = doubleAt p (i + 72); strength = doubleAt p (i + 80) }
 
 -- finder: x, y, module, confirmations
 abbrev pub finderAt : List ℕ → ℕ → Finder
@@ -69,6 +74,10 @@ pointBytes q = singleBytes (q .x) ++ singleBytes (q .y)
 -- eight f64
 abbrev pub doublesBytes : List Float → List ℕ
 doublesBytes xs = flatMap doubleBytes (tabulate 8 (λ i. getD xs i nan))
+
+-- lens transform
+abbrev pub lensBytes : Transform → List ℕ
+lensBytes t = transformBytes t ++ (doubleBytes (t .cx) ++ (doubleBytes (t .cy) ++ doubleBytes (t .strength)))
 
 -- count, one byte, and finders
 abbrev pub findersBytes : Finders → List ℕ
@@ -131,8 +140,9 @@ fixedParts =
     (1, 1) ∷ (2, 1) ∷ (3, 1) ∷ (4, 2) ∷ (5, 3) ∷ (6, 4) ∷ (7, 3) ∷ (8, 3)
     ∷ (16, 17) ∷ (17, 32) ∷ (18, 12)
     ∷ (32, 8) ∷ (34, 16) ∷ (36, 10) ∷ (37, 10)
-    ∷ (48, 336) ∷ (49, 576) ∷ (50, 64) ∷ (51, 48) ∷ (52, 72) ∷ (53, 68) ∷ (54, 68) ∷ (55, 66) ∷ (56, 48) ∷ (57, 48) ∷ (58, 58)
-    ∷ (64, 20) ∷ (65, 73) ∷ (66, 77) ∷ (67, 125)
+    ∷ (48, 336) ∷ (49, 576) ∷ (50, 64) ∷ (51, 48) ∷ (52, 96) ∷ (53, 92) ∷ (54, 92) ∷ (55, 90) ∷ (56, 48) ∷ (57, 48) ∷ (58, 58)
+    ∷ (59, 76)
+    ∷ (64, 20) ∷ (65, 97) ∷ (66, 101) ∷ (67, 149)
     ∷ (80, 12) ∷ (81, 8) ∷ (82, 8)
     ∷ (96, 45)
     ∷ []

@@ -12,7 +12,7 @@ ghost use Prim.Native.Nat.{_+_, _^_, _<_};
 ghost use lib.ListN.{length, set};
 ghost use Rattle.little_endian.specs.Bytes.{put};
 ghost use Rattle.firmware.specs.Firmware.{singleBytes, doubleBytes, finderBytes, transformBytes, firmwareBytes};
-ghost use Rattle.record.specs.Record.{floatAt, doubleAt, doublesAt, pointAt, transformAt, finderAt, cornersAt, findersAt, flag, pointBytes, doublesBytes, findersBytes, detectionsBytes, gradeBytes, gradesBytes, gradesAt};
+ghost use Rattle.record.specs.Record.{floatAt, doubleAt, doublesAt, pointAt, transformAt, lensAt, finderAt, cornersAt, findersAt, flag, pointBytes, doublesBytes, lensBytes, findersBytes, detectionsBytes, gradeBytes, gradesBytes, gradesAt};
 
 pub fn float_at(p: &[u8], at: u32) -> f32
     ensures { λ r. ⌜ r ≡ floatAt (now (p .entry)) at ⌝ }
@@ -119,8 +119,20 @@ pub fn put_point(out: &mut [u8], at: u16, q: Point)
 pub fn transform_at(p: &[u8], at: u16) -> Transform
     ensures { λ r. ⌜ r ≡ transformAt (now (p .entry)) at ⌝ }
 {
-    let m = doubles_at(p, at);
-    Transform { m }
+    Transform::plain(doubles_at(p, at))
+}
+
+// With lens terms behind the eight numbers.
+pub fn lens_at(p: &[u8], at: u16) -> Transform
+    ensures { λ r. ⌜ r ≡ lensAt (now (p .entry)) at ⌝ }
+{
+    let i = at as u32;
+    Transform {
+        m: doubles_at(p, at),
+        cx: double_at(p, i + 64),
+        cy: double_at(p, i + 72),
+        strength: double_at(p, i + 80),
+    }
 }
 
 pub fn put_transform(out: &mut [u8], at: u16, t: Transform)
@@ -128,6 +140,16 @@ pub fn put_transform(out: &mut [u8], at: u16, t: Transform)
 {
     let m = t.m;
     put_doubles(out, at, m);
+}
+
+pub fn put_lens(out: &mut [u8], at: u16, t: Transform)
+    ensures { λ _. ⌜ now (out .exit) ≡ put (lensBytes t) at (now (out .entry)) ⌝ }
+{
+    let i = at as u32;
+    put_transform(out, at, t);
+    put_double(out, i + 64, t.cx);
+    put_double(out, i + 72, t.cy);
+    put_double(out, i + 80, t.strength);
 }
 
 pub fn finder_at(p: &[u8], at: u16) -> Finder

@@ -1,4 +1,4 @@
-// Records 48 to 58: linear equations, transforms, and what three finders tell.
+// Records 48 to 59: linear equations, transforms, and what three finders tell.
 use geometry::Marker;
 use lcr_core::version::Found;
 use lcr_core::version::Version;
@@ -62,38 +62,38 @@ fn from_triangle(p: &[u8], out: &mut [u8]) -> usize {
 }
 
 fn apply(p: &[u8], out: &mut [u8]) -> usize {
-    let t = values::transform_at(p, 0);
+    let t = values::lens_at(p, 0);
     values::put_point(
         out,
         0,
-        t.apply(values::float_at(p, 64), values::float_at(p, 68)),
+        t.apply(values::float_at(p, 88), values::float_at(p, 92)),
     );
     8
 }
 
 fn module_center(p: &[u8], out: &mut [u8]) -> usize {
-    let t = values::transform_at(p, 0);
+    let t = values::lens_at(p, 0);
     values::put_point(
         out,
         0,
-        t.module_center(little_endian::get16(p, 64), little_endian::get16(p, 66)),
+        t.module_center(little_endian::get16(p, 88), little_endian::get16(p, 90)),
     );
     8
 }
 
 fn local_pitch(p: &[u8], out: &mut [u8]) -> usize {
-    let t = values::transform_at(p, 0);
+    let t = values::lens_at(p, 0);
     values::put_float(
         out,
         0,
-        t.local_pitch(little_endian::get16(p, 64), little_endian::get16(p, 66)),
+        t.local_pitch(little_endian::get16(p, 88), little_endian::get16(p, 90)),
     );
     4
 }
 
 fn pitch_range(p: &[u8], out: &mut [u8]) -> usize {
-    let t = values::transform_at(p, 0);
-    let r = t.pitch_range(little_endian::get16(p, 64));
+    let t = values::lens_at(p, 0);
+    let r = t.pitch_range(little_endian::get16(p, 88));
     values::put_float(out, 0, r.least);
     values::put_float(out, 4, r.greatest);
     8
@@ -137,6 +137,14 @@ fn build_transform(p: &[u8], out: &mut [u8]) -> usize {
     66
 }
 
+fn with_radial(p: &[u8], out: &mut [u8]) -> usize {
+    let t = values::transform_at(p, 0);
+    let cx = values::float_at(p, 64);
+    let cy = values::float_at(p, 68);
+    values::put_lens(out, 0, t.with_radial(cx, cy, values::float_at(p, 72)));
+    88
+}
+
 pub fn answer(function: u8, p: &[u8], out: &mut [u8]) -> usize {
     match function {
         48 => solve6(p, out),
@@ -150,6 +158,7 @@ pub fn answer(function: u8, p: &[u8], out: &mut [u8]) -> usize {
         56 => order_finders(p, out),
         57 => estimate_version(p, out),
         58 => build_transform(p, out),
+        59 => with_radial(p, out),
         _ => 0,
     }
 }

@@ -1,4 +1,4 @@
-// Runs calls from standard input and prints their answers, a line each (docs/REPLAY.md): records 1 to 8, 32 to 34, 36, 37 and 48 to 58.
+// Runs calls from standard input and prints their answers, a line each (docs/REPLAY.md): records 1 to 8, 32 to 34, 36, 37 and 48 to 59.
 use record::slices;
 
 mod core_calls;

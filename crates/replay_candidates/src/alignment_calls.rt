@@ -36,43 +36,43 @@ fn find_alignment(p: &[u8], out: &mut [u8]) -> usize {
 
 fn match_alignment(p: &[u8], out: &mut [u8]) -> usize {
     let r = alignment::match_alignment(
-        slices::rest(p, 73),
+        slices::rest(p, 97),
         little_endian::get32(p, 0),
         little_endian::get32(p, 4),
-        values::transform_at(p, 8),
-        Version(little_endian::get8(p, 72)),
+        values::lens_at(p, 8),
+        Version(little_endian::get8(p, 96)),
     );
     put_located(out, r)
 }
 
 fn locate_alignment(p: &[u8], out: &mut [u8]) -> usize {
     let r = alignment::locate_alignment(
-        slices::rest(p, 77),
+        slices::rest(p, 101),
         little_endian::get32(p, 0),
         little_endian::get32(p, 4),
-        values::transform_at(p, 8),
-        Version(little_endian::get8(p, 72)),
-        values::float_at(p, 73),
+        values::lens_at(p, 8),
+        Version(little_endian::get8(p, 96)),
+        values::float_at(p, 97),
     );
     put_located(out, r)
 }
 
 fn refine_alignment(p: &[u8], out: &mut [u8]) -> usize {
     let r = alignment::refine_alignment(
-        slices::rest(p, 125),
+        slices::rest(p, 149),
         little_endian::get32(p, 0),
         little_endian::get32(p, 4),
         values::corners_at(p, 8),
         Version(little_endian::get8(p, 56)),
-        values::transform_at(p, 57),
-        values::float_at(p, 121),
+        values::lens_at(p, 57),
+        values::float_at(p, 145),
     );
     little_endian::put8(out, 0, r.refusal);
     let t = r.transform;
-    values::put_transform(out, 1, t);
+    values::put_lens(out, 1, t);
     let m = r.marker;
-    put_marker(out, 65, m);
-    74
+    put_marker(out, 89, m);
+    98
 }
 
 pub fn answer(function: u8, p: &[u8], out: &mut [u8]) -> usize {

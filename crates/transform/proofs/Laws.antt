@@ -5,14 +5,14 @@ use mathlib.Core.List.{List, _++_}
 use Prim.Native.Nat.{ℕ, _-_}
 use lib.ListN.{length, getD, replicate}
 use lib.Seq.{paste}
-use lib.Ieee.{Float, nan, inf, lt, div, ofBits}
-use Rattle.float.specs.Floats.{absOf, minOf, maxOf}
-use Rattle.float.specs.Steps.{plus32, times32, over32, over64}
+use lib.Ieee.{Float, nan, inf, lt, eq, div, ofBits}
+use Rattle.float.specs.Floats.{absOf, narrowOf, minOf, maxOf}
+use Rattle.float.specs.Steps.{plus32, times32, over32, plus64, over64}
 use Rattle.float.specs.Constants.{f0, f1, half, f1·5, d0, d1, d1e-9}
 use Rattle.math.specs.Solve.{augmented, solutionOf}
 use Rattle.math.specs.declared.Solution.{Solution}
 use Rattle.transform.specs.Fit.{widened, homographyRows, affineRows, both, fitOf, quadFit, triangleFit}
-use Rattle.transform.specs.Apply.{linearOf, apartOf, projected, inModule, centerOf, distanceOf, pitchAt, pitchesOf}
+use Rattle.transform.specs.Apply.{linearOf, apartOf, projected, offsetOf, divided, bent, applied, inModule, centerOf, distanceOf, pitchAt, pitchesOf}
 use Rattle.transform.specs.declared.Point.{Point}
 use Rattle.transform.specs.declared.Wide.{Wide}
 use Rattle.transform.specs.declared.Triangle.{Triangle}
@@ -52,13 +52,24 @@ unfolding triangleFit
 triangle-is s d w₀ w₁ w₂ d₀ d₁ d₂ a r e₀ e₁ e₂ g₀ g₁ g₂ t h f k = cc
 
 -- ---- a point
-pub projected-is : (t : Transform) (p : Wide) (q w x y : Float)
-    → q ≡ linearOf (getD (t .m) 6 nan) (getD (t .m) 7 nan) d1 p → w ≡ apartOf q
-    → x ≡ linearOf (getD (t .m) 0 nan) (getD (t .m) 1 nan) (getD (t .m) 2 nan) p
-    → y ≡ linearOf (getD (t .m) 3 nan) (getD (t .m) 4 nan) (getD (t .m) 5 nan) p
-    → _≡_ {A = Wide} (record { x = over64 x w; y = over64 y w }) (projected t p)
+pub projected-is : (m : List Float) (p : Wide) (q w x y : Float)
+    → q ≡ linearOf (getD m 6 nan) (getD m 7 nan) d1 p → w ≡ apartOf q
+    → x ≡ linearOf (getD m 0 nan) (getD m 1 nan) (getD m 2 nan) p
+    → y ≡ linearOf (getD m 3 nan) (getD m 4 nan) (getD m 5 nan) p
+    → _≡_ {A = Wide} (record { x = over64 x w; y = over64 y w }) (projected m p)
 unfolding projected
-projected-is t p q w x y a c d e = cc
+projected-is m p q w x y a c d e = cc
+
+-- ---- the lens
+pub bent-is : (t : Transform) (p u a b c d : Wide) (x y : Float) → u ≡ offsetOf p (t .cx) (t .cy)
+    → a ≡ divided (t .strength) u u → b ≡ divided (t .strength) u a → c ≡ divided (t .strength) u b → d ≡ divided (t .strength) u c
+    → x ≡ narrowOf (plus64 (t .cx) (d .x)) → y ≡ narrowOf (plus64 (t .cy) (d .y)) → _≡_ {A = Point} (record { x = x; y = y }) (bent t p)
+unfolding bent
+bent-is t p u a b c d x y eu ea eb ec ed ex ey = rw (ex, ey, ed, ec, eb, ea, eu)
+
+pub applied-bent : (t : Transform) (u v : Float) (w p : Wide) (r : Point) → eq (t .strength) d0 ≡ false → w ≡ widened (record { x = u; y = v }) → p ≡ projected (t .m) w → r ≡ bent t p → r ≡ applied t u v
+unfolding applied
+applied-bent t u v w p r e ew ep er = rw e (er ∙ ap (bent t) (ep ∙ ap (projected (t .m)) ew))
 
 -- ---- pitches
 pub pitch-is : (t : Transform) (x y : ℕ) (c r d : Point) (a b : Float) → c ≡ centerOf t x y → r ≡ inModule t x y f1·5 half → d ≡ inModule t x y half f1·5

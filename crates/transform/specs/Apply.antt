@@ -1,11 +1,12 @@
--- Where a transform takes a point, distances, and the module pitch. Definitions only.
+-- Where a transform takes a point (document 02, N12: through the lens too), distances, and the module pitch. Definitions only.
 use mathlib.Core.Bool.{false, cond}
+use mathlib.Core.List.{List}
 use Prim.Native.Nat.{ℕ, _-_}
 use lib.ListN.{getD}
-use lib.Ieee.{Float, nan, inf, lt, binary32}
+use lib.Ieee.{Float, nan, inf, lt, eq, binary32}
 use Rattle.float.specs.Floats.{absOf, narrowOf, sqrtOf, minOf, maxOf}
-use Rattle.float.specs.Steps.{plus32, minus32, times32, whole32, plus64, times64, over64}
-use Rattle.float.specs.Constants.{f0, half, f1·5, d1, d1e-9}
+use Rattle.float.specs.Steps.{plus32, minus32, times32, whole32, plus64, minus64, times64, over64}
+use Rattle.float.specs.Constants.{f0, half, f1·5, d0, d1, d1e-9}
 use Rattle.transform.specs.Fit.{widened}
 use Rattle.transform.specs.declared.Point.{Point}
 use Rattle.transform.specs.declared.Wide.{Wide}
@@ -23,9 +24,9 @@ unfoldable pub apartOf : Float → Float
 apartOf w = cond (lt (absOf w) d1e-9) d1e-9 w
 
 -- ((m0 u + m1 v + m2) / w, (m3 u + m4 v + m5) / w) with w = m6 u + m7 v + 1, kept apart from 0
-unfoldable pub projected : Transform → Wide → Wide
-projected t p =
-    let m : ℕ → Float = λ i. getD (t .m) i nan in
+unfoldable pub projected : List Float → Wide → Wide
+projected ms p =
+    let m : ℕ → Float = λ i. getD ms i nan in
     let w = apartOf (linearOf (m 6) (m 7) d1 p) in
     record { x = over64 (linearOf (m 0) (m 1) (m 2) p) w; y = over64 (linearOf (m 3) (m 4) (m 5) p) w }
 
@@ -33,9 +34,37 @@ projected t p =
 unfoldable pub narrowed : Wide → Point
 narrowed p = record { x = narrowOf (p .x); y = narrowOf (p .y) }
 
--- `apply`
+-- where eight numbers without a lens take (u, v)
+unfoldable pub placed : List Float → Float → Float → Point
+placed m u v = narrowed (projected m (widened (record { x = u; y = v })))
+
+-- ---- the lens
+
+-- from its centre (cx, cy) to p
+abbrev pub offsetOf : Wide → Float → Float → Wide
+offsetOf p cx cy = record { x = minus64 (p .x) cx; y = minus64 (p .y) cy }
+
+-- one round, with its strength k: u / (1 + k (d.x d.x + d.y d.y)), whatever the divisor
+unfoldable pub divided : Float → Wide → Wide → Wide
+divided k u d =
+    let s = plus64 d1 (times64 k (plus64 (times64 (d .x) (d .x)) (times64 (d .y) (d .y)))) in
+    record { x = over64 (u .x) s; y = over64 (u .y) s }
+
+-- through it: four rounds of the division, the first from the offset u itself; the narrowing last
+unfoldable pub bent : Transform → Wide → Point
+bent t p =
+    let u = offsetOf p (t .cx) (t .cy) in
+    let round : Wide → Wide = divided (t .strength) u in
+    let d = round (round (round (round u))) in
+    record { x = narrowOf (plus64 (t .cx) (d .x)); y = narrowOf (plus64 (t .cy) (d .y)) }
+
+-- `apply`: without the lens where its strength equals 0, as -0.0 does and a not-a-number doesn't
 unfoldable pub applied : Transform → Float → Float → Point
-applied t u v = narrowed (projected t (widened (record { x = u; y = v })))
+applied t u v = cond (eq (t .strength) d0) (placed (t .m) u v) (bent t (projected (t .m) (widened (record { x = u; y = v }))))
+
+-- `with_radial`: the eight numbers with such a lens; an f32 is an f64 as it stands
+abbrev pub withRadial : Transform → Float → Float → Float → Transform
+withRadial t cx cy strength = record { m = t .m; cx = cx; cy = cy; strength = strength }
 
 -- ---- in f32
 

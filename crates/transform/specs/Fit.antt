@@ -1,6 +1,7 @@
--- The map from modules to pixels (`Transform` of document 002, without lens terms), first how it is fitted: the linear equations of a homography
+-- The map from modules to pixels (`Transform` of document 002), first how it is fitted: the linear equations of a homography
 -- through four points, and of an affine map through three. Document 01: `Transform` refuses nothing, "none" is its answer where the Rust gives `None`,
 -- and the floats handed in may be any. Steps are f64. Definitions only.
+use mathlib.Core.Path.{_≡_}
 use mathlib.Core.List.{List, [], _∷_, _++_}
 use lib.ListN.{replicate}
 use lib.Ieee.{Float, neg}
@@ -15,13 +16,21 @@ use Rattle.transform.specs.declared.Quad.{Quad}
 use Rattle.transform.specs.declared.Transform.{Transform}
 use Rattle.transform.specs.declared.Fit.{Fit}
 
+-- eight numbers without a lens: its centre (0, 0), its strength 0
+abbrev pub plain : List Float → Transform
+plain m = record { m = m; cx = d0; cy = d0; strength = d0 }
+
+-- a transform without a lens
+abbrev pub Plain : Transform → Type 0
+Plain t = t ≡ plain (t .m)
+
 -- every number 0, as a refusal leaves it
 abbrev pub zeroTransform : Transform
-zeroTransform = record { m = replicate 8 d0 }
+zeroTransform = plain (replicate 8 d0)
 
 -- `IDENTITY`: x = u and y = v
 abbrev pub identityTransform : Transform
-identityTransform = record { m = d1 ∷ d0 ∷ d0 ∷ d0 ∷ d1 ∷ d0 ∷ d0 ∷ d0 ∷ [] }
+identityTransform = plain (d1 ∷ d0 ∷ d0 ∷ d0 ∷ d1 ∷ d0 ∷ d0 ∷ d0 ∷ [])
 
 -- an f32 is an f64 as it stands
 unfoldable pub widened : Point → Wide
@@ -43,7 +52,7 @@ both d = d .x ∷ d .y ∷ []
 
 -- the transform of a solution; the affine map's m6 and m7 are the zeros beyond six unknowns
 abbrev pub fitOf : Solution → Fit
-fitOf s = record { found = s .found; transform = record { m = s .x } }
+fitOf s = record { found = s .found; transform = plain (s .x) }
 
 -- `from_quad`: the points of s go to those of d
 unfoldable pub quadFit : Quad → Quad → Fit

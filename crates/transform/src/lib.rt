@@ -1,10 +1,10 @@
-// The projective map from module coordinates to pixels. Positions are f32; the map's numbers and steps are f64.
+// The projective map from module coordinates to pixels, and the lens behind it. Positions are f32; the map's numbers and steps are f64.
 ghost use mathlib.Core.Path.{_≡_};
 ghost use Prim.Native.Nat.{_+_, _≤_};
 ghost use lib.ListN.{length};
 ghost use lib.Seq.{paste as pasted};
-ghost use Rattle.transform.specs.Fit.{zeroTransform, identityTransform, widened, homographyRows, affineRows, fitOf, quadFit, triangleFit};
-ghost use Rattle.transform.specs.Apply.{linearOf, apartOf, projected, narrowed, applied, centerOf, distance2Of, distanceOf, pitchAt, pitchesOf};
+ghost use Rattle.transform.specs.Fit.{plain, zeroTransform, identityTransform, widened, homographyRows, affineRows, fitOf, quadFit, triangleFit};
+ghost use Rattle.transform.specs.Apply.{linearOf, apartOf, projected, narrowed, placed, offsetOf, divided, bent, applied, withRadial, centerOf, distance2Of, distanceOf, pitchAt, pitchesOf};
 
 pub struct Point {
     pub x: f32,
@@ -24,9 +24,13 @@ pub struct Quad {
     pub d: Point,
 }
 
-// (u, v) goes to ((m0 u + m1 v + m2) / w, (m3 u + m4 v + m5) / w) with w = m6 u + m7 v + 1.
+// (u, v) goes to ((m0 u + m1 v + m2) / w, (m3 u + m4 v + m5) / w) with w = m6 u + m7 v + 1, and from there through a lens about (cx, cy), unless its
+// strength is 0.
 pub struct Transform {
     pub m: [f64; 8],
+    pub cx: f64,
+    pub cy: f64,
+    pub strength: f64,
 }
 
 // A transform, or none, and then zeros.
@@ -97,7 +101,7 @@ fn fitted(s: math::Solution) -> Fit
     let m = s.x;
     Fit {
         found: s.found,
-        transform: Transform { m },
+        transform: Transform::plain(m),
     }
 }
 
@@ -115,7 +119,22 @@ fn paste(d: &mut [f64], at: usize, s: &[f64])
 impl Transform {
     pub const IDENTITY: Transform = Transform {
         m: [1.0, 0.0, 0.0, 0.0, 1.0, 0.0, 0.0, 0.0],
+        cx: 0.0,
+        cy: 0.0,
+        strength: 0.0,
     };
+
+    // Eight numbers without a lens.
+    pub fn plain(m: [f64; 8]) -> Transform
+        ensures { λ r. ⌜ r ≡ plain m ⌝ }
+    {
+        Transform {
+            m,
+            cx: 0.0,
+            cy: 0.0,
+            strength: 0.0,
+        }
+    }
 
     // Which takes (u, v) to (u, v).
     pub fn identity() -> Transform
@@ -128,7 +147,7 @@ impl Transform {
     pub fn zero() -> Transform
         ensures { λ r. ⌜ r ≡ zeroTransform ⌝ }
     {
-        Transform { m: [0.0; 8] }
+        Transform::plain([0.0; 8])
     }
 
     // The homography that takes the four points of src to those of dst, or none.
@@ -170,7 +189,7 @@ impl Transform {
 
     // Where p goes, in f64.
     fn project(self, p: Wide) -> Wide
-        ensures { λ r. ⌜ r ≡ projected self p ⌝ }
+        ensures { λ r. ⌜ r ≡ projected (self .m) p ⌝ }
     {
         let m = self.m;
         let w = apart(linear(m[6], m[7], 1.0, p));
@@ -180,11 +199,47 @@ impl Transform {
         }
     }
 
+    // The pixel position of (u, v) without a lens.
+    pub fn place(self, u: f32, v: f32) -> Point
+        ensures { λ r. ⌜ r ≡ placed (self .m) u v ⌝ }
+    {
+        narrow(self.project(widen(Point { x: u, y: v })))
+    }
+
+    // The pixel position to which the lens takes p, by four rounds of the division.
+    fn bend(self, p: Wide) -> Point
+        ensures { λ r. ⌜ r ≡ bent self p ⌝ }
+    {
+        let k = self.strength;
+        let u = offset(p, self.cx, self.cy);
+        let d = divide(k, u, divide(k, u, divide(k, u, divide(k, u, u))));
+        Point {
+            x: float::narrow(self.cx + d.x),
+            y: float::narrow(self.cy + d.y),
+        }
+    }
+
     // The pixel position of (u, v).
     pub fn apply(self, u: f32, v: f32) -> Point
         ensures { λ r. ⌜ r ≡ applied self u v ⌝ }
     {
-        narrow(self.project(widen(Point { x: u, y: v })))
+        if self.strength == 0.0 {
+            return self.place(u, v);
+        }
+        self.bend(self.project(widen(Point { x: u, y: v })))
+    }
+
+    // The same map through a lens about (cx, cy).
+    pub fn with_radial(self, cx: f32, cy: f32, strength: f32) -> Transform
+        ensures { λ r. ⌜ r ≡ withRadial self cx cy strength ⌝ }
+    {
+        let m = self.m;
+        Transform {
+            m,
+            cx: std::num::f32_to_f64_with_nan(cx),
+            cy: std::num::f32_to_f64_with_nan(cy),
+            strength: std::num::f32_to_f64_with_nan(strength),
+        }
     }
 
     // The pixel position of the centre of module (x, y).
@@ -224,6 +279,27 @@ impl Transform {
 }
 
 // ---- steps
+
+// From (cx, cy) to p.
+fn offset(p: Wide, cx: f64, cy: f64) -> Wide
+    ensures { λ r. ⌜ r ≡ offsetOf p cx cy ⌝ }
+{
+    Wide {
+        x: p.x - cx,
+        y: p.y - cy,
+    }
+}
+
+// One round: the offset u, divided by what a lens of strength k makes of the offset d.
+fn divide(k: f64, u: Wide, d: Wide) -> Wide
+    ensures { λ r. ⌜ r ≡ divided k u d ⌝ }
+{
+    let s = 1.0 + k * (d.x * d.x + d.y * d.y);
+    Wide {
+        x: u.x / s,
+        y: u.y / s,
+    }
+}
 
 fn narrow(p: Wide) -> Point
     ensures { λ r. ⌜ r ≡ narrowed p ⌝ }

@@ -8,7 +8,7 @@ use crate::rules::{bad_version, bits_refusal, detection_bytes, refusal};
 use lcr_core::Version;
 use lcr_decode::detect::*;
 use lcr_decode::image::{Binary, binary_of};
-use lcr_decode::transform::numbers_of;
+use lcr_decode::transform::lens_of;
 
 /// The Rust's answer, or that of the own lines where it panics or takes too long.
 fn asked<T>(slow: bool, rust: impl FnOnce() -> T, own: impl FnOnce() -> T) -> (T, Source) {
@@ -40,7 +40,7 @@ pub fn alignment_answer(function: u8, f: &mut Fields, out: &mut Bytes) -> Source
             source
         }
         65 | 66 => {
-            let (t, version) = (f.transform(), f.u8());
+            let (t, version) = (f.lens_transform(), f.u8());
             let module = if function == 66 { f.f32() } else { 0.0 };
             let bits = f.rest();
             let number = bits_refusal(width, height, bits.len());
@@ -61,20 +61,23 @@ pub fn alignment_answer(function: u8, f: &mut Fields, out: &mut Bytes) -> Source
             source
         }
         _ => {
-            let (three, version, t, module) = (f.three(), f.u8(), f.transform(), f.f32());
+            let (three, version, t, module) = (f.three(), f.u8(), f.lens_transform(), f.f32());
             let bits = f.rest();
             let number = bits_refusal(width, height, bits.len());
             let number = if number == 0 { refusal(&[bad_version(version)]) } else { number };
             if number != 0 {
-                out.u8(number).numbers(&[0.0; 8]).maybe_point(None);
+                out.u8(number).numbers(&[0.0; 11]).maybe_point(None);
                 return Source::Rust;
             }
             let bin = binary_of(width, height, bits);
             let version = Version::new(version).unwrap();
             let rust = || refine_alignment(&bin, &three, version, t, module);
             let own = || refine_alignment_of(&bin, &three, version, t, module);
-            let ((t, found), source) = asked(slow(module), rust, own);
-            out.u8(0).numbers(&numbers_of(&t)).maybe_point(found);
+            let ((refined, found), source) = asked(slow(module), rust, own);
+            let rebuilt = found.and_then(|_| build_transform(&three, found, version));
+            let lens = rebuilt.map_or(lens_of(&t), |_| [0.0; 3]).map(f64::to_bits);
+            assert_eq!(lens_of(&refined).map(f64::to_bits), lens, "the lens terms after the refinement");
+            out.u8(0).lens_transform(&refined).maybe_point(found);
             source
         }
     }

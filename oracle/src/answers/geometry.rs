@@ -7,7 +7,7 @@ use crate::rules::{bad_version, refusal};
 use lcr_core::Version;
 use lcr_decode::detect::{build_transform, estimate_version, order_finders};
 use lcr_decode::math::solve;
-use lcr_decode::transform::{Transform, numbers_of};
+use lcr_decode::transform::Transform;
 
 pub fn answer(function: u8, f: &mut Fields, out: &mut Bytes) -> Source {
     match function {
@@ -18,24 +18,22 @@ pub fn answer(function: u8, f: &mut Fields, out: &mut Bytes) -> Source {
             out.maybe_numbers(solve(&mut a, &mut b, n), n);
         }
         50 => {
-            let t = Transform::from_quad(f.points(), f.points());
-            out.maybe_numbers(t.map(|t| numbers_of(&t).to_vec()), 8);
+            out.maybe_transform(Transform::from_quad(f.points(), f.points()));
         }
         51 => {
-            let t = Transform::from_triangle(f.points(), f.points());
-            out.maybe_numbers(t.map(|t| numbers_of(&t).to_vec()), 8);
+            out.maybe_transform(Transform::from_triangle(f.points(), f.points()));
         }
         52 => {
-            out.point(f.transform().apply(f.f32(), f.f32()));
+            out.point(f.lens_transform().apply(f.f32(), f.f32()));
         }
         53 => {
-            out.point(f.transform().module_center(f.u16(), f.u16()));
+            out.point(f.lens_transform().module_center(f.u16(), f.u16()));
         }
         54 => {
-            out.f32(f.transform().local_pitch(f.u16(), f.u16()));
+            out.f32(f.lens_transform().local_pitch(f.u16(), f.u16()));
         }
         55 => {
-            out.point(f.transform().pitch_range(f.u16()));
+            out.point(f.lens_transform().pitch_range(f.u16()));
         }
         56 => {
             let [a, b, c] = f.three();
@@ -47,7 +45,7 @@ pub fn answer(function: u8, f: &mut Fields, out: &mut Bytes) -> Source {
             put_version(asked.unwrap_or_else(|| estimate_version_of(&three)), out);
             return if asked.is_some() { Source::Rust } else { Source::Panicked };
         }
-        _ => {
+        58 => {
             let three = f.three();
             let (flag, marker, version) = (f.u8(), f.point(), f.u8());
             let number = refusal(&[bad_version(version)]);
@@ -55,7 +53,10 @@ pub fn answer(function: u8, f: &mut Fields, out: &mut Bytes) -> Source {
                 let version = Version::new(version).unwrap();
                 build_transform(&three, (flag == 1).then_some(marker), version)
             });
-            out.u8(number).maybe_numbers(built.flatten().map(|t| numbers_of(&t).to_vec()), 8);
+            out.u8(number).maybe_transform(built.flatten());
+        }
+        _ => {
+            out.lens_transform(&f.transform().with_radial(f.f32(), f.f32(), f.f32()));
         }
     }
     Source::Rust

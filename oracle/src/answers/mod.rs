@@ -46,7 +46,7 @@ pub fn answer(record: &Record) -> Answer {
         32..=34 => pictures::finders_answer(record.function, f, &mut out),
         36 => runs_answer(f, &mut out),
         37 => end_answer(f, &mut out),
-        48..=58 => geometry::answer(record.function, f, &mut out),
+        48..=59 => geometry::answer(record.function, f, &mut out),
         64..=67 => detections::alignment_answer(record.function, f, &mut out),
         80..=82 => detections::candidates_answer(record.function, f, &mut out),
         96 => pictures::chain_answer(f, &mut out),

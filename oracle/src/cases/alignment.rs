@@ -1,7 +1,7 @@
 //! The search for the alignment marker.
 
 use super::finders::marker;
-use super::geometry::{any_point, any_three, any_transform, any_version};
+use super::geometry::{any_centre, any_lens, any_point, any_three, any_transform, any_version, pixel_of};
 use super::{Reach, bit_picture, resized};
 use crate::picture::Gray;
 use crate::plate::{View, render};
@@ -110,6 +110,38 @@ fn seen(rng: &mut Rng, reach: Reach) -> Seen {
     Seen { sides: (gray.width, gray.height), bits: gray.bits(128), three, version, pitch: p }
 }
 
+/// Lens terms for a scene: a third without strength, a third that moves the marker by some modules, the rest of any
+/// kind. For two in five of those that move it the transform is moved against them, so that it goes to the marker
+/// through the lens and misses it without.
+fn scene_lens(rng: &mut Rng, m: &mut [f64; 8], version: u8, pitch: f64) -> [f64; 3] {
+    let corner = (17 + 4 * version as u32) as f32 - 6.5;
+    let marker = pixel_of(*m, (corner, corner));
+    match rng.below(3) {
+        0 => {
+            let [cx, cy] = if rng.one_in(2) { [0.0; 2] } else { any_centre(rng, marker) };
+            [cx, cy, rng.pick(&[0.0, -0.0])]
+        }
+        1 => {
+            let against = rng.below(5) < 2;
+            // Modules from the centre to the marker, and those that the lens moves it by.
+            let (far, by) = match rng.below(3) {
+                _ if against => (rng.real(100.0, 300.0), rng.real(3.5, 9.0)),
+                0 => (rng.real(50.0, 200.0), rng.real(2.5, 7.0)),
+                _ => (rng.real(20.0, 100.0), rng.real(0.05, 2.0)),
+            };
+            let (sin, cos) = rng.real(-3.2, 3.2).sin_cos();
+            let (dx, dy) = (far * pitch * cos, far * pitch * sin);
+            let bend = rng.pick(&[-1.0, 1.0]) * by / far;
+            if against {
+                m[2] += dx * bend;
+                m[5] += dy * bend;
+            }
+            [marker.0 - dx, marker.1 - dy, bend / (dx * dx + dy * dy)]
+        }
+        _ => any_lens(rng.next(), rng, marker),
+    }
+}
+
 fn pattern_case(function: u8, i: u64, rng: &mut Rng, reach: Reach) -> Record {
     let mut s = seen(rng, reach);
     let version = lcr_core::Version::new(s.version).unwrap();
@@ -117,9 +149,10 @@ fn pattern_case(function: u8, i: u64, rng: &mut Rng, reach: Reach) -> Record {
     let mut m = fit.unwrap_or([0.0; 8]);
     match i % 8 {
         0 => m = any_transform(rng),
-        1 => s.version = any_version(rng.below(16), rng),
-        2 => s.three = any_three(rng),
-        3 => (s.sides, s.bits) = bit_picture(rng, reach, i % 64 == 3),
+        1 => s.version = any_version(rng.below(6), rng),
+        // Finders at one place and a marker give no homography: the three alone are taken.
+        2 => s.three = if rng.one_in(3) { [s.three[0]; 3] } else { any_three(rng) },
+        3 => (s.sides, s.bits) = bit_picture(rng, reach, i % 16 == 3),
         4 => {
             let at = rng.below(8) as usize;
             m[at] += rng.pick(&[1e-3, -1e-3, 0.5, 1e-9]);
@@ -133,13 +166,14 @@ fn pattern_case(function: u8, i: u64, rng: &mut Rng, reach: Reach) -> Record {
         let length = s.bits.len().saturating_sub(1);
         s.bits = resized(rng, s.bits, length);
     }
+    let lens = scene_lens(rng, &mut m, s.version, s.pitch as f64);
     let module = about_module(rng, s.pitch);
     Record::new(function).with(|b| {
         b.u32(s.sides.0).u32(s.sides.1);
         match function {
-            65 => b.numbers(&m).u8(s.version),
-            66 => b.numbers(&m).u8(s.version).f32(module),
-            _ => b.finders(&s.three).u8(s.version).numbers(&m).f32(module),
+            65 => b.numbers(&m).bits(&lens).u8(s.version),
+            66 => b.numbers(&m).bits(&lens).u8(s.version).f32(module),
+            _ => b.finders(&s.three).u8(s.version).numbers(&m).bits(&lens).f32(module),
         };
         b.raw(&s.bits);
     })

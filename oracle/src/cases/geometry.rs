@@ -4,6 +4,7 @@ use super::finders::any_finder;
 use crate::record::{Bytes, Record};
 use crate::rng::Rng;
 use lcr_decode::detect::Finder;
+use lcr_decode::transform::transform_of;
 
 pub fn case(function: u8, i: u64, rng: &mut Rng) -> Record {
     let mut out = Bytes::default();
@@ -12,24 +13,23 @@ pub fn case(function: u8, i: u64, rng: &mut Rng) -> Record {
         49 => system(i, 8, rng, &mut out),
         50 => correspondences(4, rng, &mut out),
         51 => correspondences(3, rng, &mut out),
-        52 => applied(rng, &mut out),
-        53 | 54 => {
-            out.numbers(&any_transform(rng));
-            out.u16(any_module(rng)).u16(any_module(rng));
-        }
-        55 => {
-            out.numbers(&any_transform(rng)).u16(any_module(rng));
-        }
+        52..=55 => through_lens(function, i, rng, &mut out),
         56 => {
             out.finders(&any_three(rng));
         }
         57 => {
             out.finders(&edges(i, rng));
         }
-        _ => {
+        58 => {
             out.finders(&any_three(rng)).u8(rng.whole(0, 1) as u8);
             out.point(any_point(rng));
             out.u8(any_version(i, rng));
+        }
+        _ => {
+            out.numbers(&any_transform(rng));
+            (0..3).for_each(|_| {
+                out.u32(any_term(rng).to_bits());
+            });
         }
     }
     Record { function, payload: out.0 }
@@ -163,8 +163,96 @@ pub fn any_transform(rng: &mut Rng) -> [f64; 8] {
     m
 }
 
+/// A transform with lens terms and the modules that it is asked for.
+fn through_lens(function: u8, i: u64, rng: &mut Rng, out: &mut Bytes) {
+    let (x, y) = (any_module(rng), any_module(rng));
+    let far = x.saturating_sub(2);
+    let centre = |x: u16, y: u16| (x as f32 + 0.5, y as f32 + 0.5);
+    let (mut m, mut at) = match function {
+        52 => applied(rng),
+        55 => (any_transform(rng), centre(rng.pick(&[0, far]), rng.pick(&[0, far]))),
+        _ => (any_transform(rng), centre(x, y)),
+    };
+    if i % LENSES == ZERO_DIVISOR {
+        // Even numbers put the centre of a module at a whole pixel.
+        m = core::array::from_fn(|k| if k < 6 { 2.0 * rng.whole(0, 20) as f64 - 20.0 } else { 0.0 });
+        at = if function == 52 { centre(rng.whole(0, 145) as u16, rng.whole(0, 145) as u16) } else { at };
+    }
+    let lens = any_lens(i, rng, pixel_of(m, at));
+    out.numbers(&m).bits(&lens);
+    match function {
+        52 => out.point(at),
+        55 => out.u16(x),
+        _ => out.u16(x).u16(y),
+    };
+}
+
+/// Where a transform without lens terms puts a module place.
+pub fn pixel_of(m: [f64; 8], at: (f32, f32)) -> (f64, f64) {
+    let (x, y) = transform_of(m).apply(at.0, at.1);
+    (x as f64, y as f64)
+}
+
+/// How many kinds of lens terms there are, and the one with a divisor of exactly 0.
+const LENSES: u64 = 16;
+const ZERO_DIVISOR: u64 = 7;
+
+/// Lens terms of a kind: centre x, centre y, strength. Everyday and strong ones, and a divisor of 0, are made for the
+/// pixel that the transform reaches without them, a whole one for the divisor.
+pub fn any_lens(kind: u64, rng: &mut Rng, pixel: (f64, f64)) -> [f64; 3] {
+    let [cx, cy] = any_centre(rng, pixel);
+    match kind % LENSES {
+        0 => [cx, cy, 0.0],
+        1 => [cx, cy, -0.0],
+        2 => [cx, cy, f64::from_bits(rng.pick(&[0x7ff8 << 48, 0xfff8 << 48, (0x7ff0 << 48) + 1]))],
+        3 => [cx, cy, rng.pick(&[f64::INFINITY, f64::NEG_INFINITY])],
+        4 => [cx, cy, f64::from_bits(rng.next() & 0x800f_ffff_ffff_ffff)],
+        5 => core::array::from_fn(|_| f64::from_bits(rng.next())),
+        6 => core::array::from_fn(|_| rng.any_f64()),
+        ZERO_DIVISOR => {
+            // An offset whose square is a power of two.
+            let (a, b) = rng.pick(&[(1.0, 0.0), (0.0, -1.0), (1.0, 1.0), (-1.0, 1.0)]);
+            let d = 2f64.powi(rng.whole(0, 10) as i32);
+            [pixel.0 - a * d, pixel.1 - b * d, -1.0 / (a * a * d * d + b * b * d * d)]
+        }
+        8 | 9 => bent_lens(rng, pixel, 1.0, 100.0),
+        _ => bent_lens(rng, pixel, 0.001, 0.5),
+    }
+}
+
+/// A centre about a pixel, in a picture, at 0, or of any floats.
+pub fn any_centre(rng: &mut Rng, pixel: (f64, f64)) -> [f64; 2] {
+    match rng.below(6) {
+        0 => [0.0; 2],
+        1 => [rng.real(0.0, 600.0), rng.real(0.0, 600.0)],
+        2 => core::array::from_fn(|_| rng.pick(&[f64::NAN, f64::INFINITY, -1e300, 1e160, -0.0, 250.0])),
+        3 => core::array::from_fn(|_| rng.any_f64()),
+        _ => [pixel.0 + rng.real(-400.0, 400.0), pixel.1 + rng.real(-400.0, 400.0)],
+    }
+}
+
+/// Lens terms with a strength × offset² of this size at a pixel, of either sign; every second time of f32.
+fn bent_lens(rng: &mut Rng, pixel: (f64, f64), least: f64, most: f64) -> [f64; 3] {
+    let bend = rng.pick(&[-1.0, 1.0]) * least * (most / least).powf(rng.real(0.0, 1.0));
+    let (dx, dy) = (rng.real(-400.0, 400.0), rng.real(-400.0, 400.0));
+    let lens = [pixel.0 - dx, pixel.1 - dy, bend / (dx * dx + dy * dy)];
+    if rng.one_in(2) { lens.map(|v| v as f32 as f64) } else { lens }
+}
+
+/// A lens term as it is handed over: of a picture, a weak strength, subnormal, no number or infinite, any float.
+fn any_term(rng: &mut Rng) -> f32 {
+    const ODD: [u32; 6] = [0x7fc0_0000, 0xffc0_0001, 0x7f80_0001, 0x7f80_0000, 0xff80_0000, 1 << 31];
+    match rng.below(8) {
+        0..=2 => rng.real(-100.0, 4200.0) as f32,
+        3 => rng.real(-1e-5, 1e-5) as f32,
+        4 => f32::from_bits(rng.next() as u32 & 0x807f_ffff),
+        5 => f32::from_bits(rng.pick(&ODD)),
+        _ => rng.any_f32(),
+    }
+}
+
 /// A transform and a point, now and then on its horizon.
-fn applied(rng: &mut Rng, out: &mut Bytes) {
+fn applied(rng: &mut Rng) -> ([f64; 8], (f32, f32)) {
     let mut m = any_transform(rng);
     let (mut u, mut v) = (rng.real(-4.0, 150.0) as f32, rng.real(-4.0, 150.0) as f32);
     match rng.below(5) {
@@ -177,7 +265,7 @@ fn applied(rng: &mut Rng, out: &mut Bytes) {
         }
         _ => (),
     }
-    out.numbers(&m).f32(u).f32(v);
+    (m, (u, v))
 }
 
 /// Three finders: corners of a plate in any order, ties, on one line, any.

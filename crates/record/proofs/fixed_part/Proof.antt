@@ -111,38 +111,42 @@ returns-26 c = listed _ 58 _ (c .match .keys26) refl
 
 returns-27 : tie.Need-returns-27
 unfolding fixedPart lookup
-returns-27 c = listed _ 64 _ (c .match .keys27) refl
+returns-27 c = listed _ 59 _ (c .match .keys27) refl
 
 returns-28 : tie.Need-returns-28
 unfolding fixedPart lookup
-returns-28 c = listed _ 65 _ (c .match .keys28) refl
+returns-28 c = listed _ 64 _ (c .match .keys28) refl
 
 returns-29 : tie.Need-returns-29
 unfolding fixedPart lookup
-returns-29 c = listed _ 66 _ (c .match .keys29) refl
+returns-29 c = listed _ 65 _ (c .match .keys29) refl
 
 returns-30 : tie.Need-returns-30
 unfolding fixedPart lookup
-returns-30 c = listed _ 67 _ (c .match .keys30) refl
+returns-30 c = listed _ 66 _ (c .match .keys30) refl
 
 returns-31 : tie.Need-returns-31
 unfolding fixedPart lookup
-returns-31 c = listed _ 80 _ (c .match .keys31) refl
+returns-31 c = listed _ 67 _ (c .match .keys31) refl
 
 returns-32 : tie.Need-returns-32
 unfolding fixedPart lookup
-returns-32 c = listed _ 81 _ (c .match .keys32) refl
+returns-32 c = listed _ 80 _ (c .match .keys32) refl
 
 returns-33 : tie.Need-returns-33
 unfolding fixedPart lookup
-returns-33 c = listed _ 82 _ (c .match .keys33) refl
+returns-33 c = listed _ 81 _ (c .match .keys33) refl
 
 returns-34 : tie.Need-returns-34
 unfolding fixedPart lookup
-returns-34 c = listed _ 96 _ (c .match .keys34) refl
+returns-34 c = listed _ 82 _ (c .match .keys34) refl
 
 returns-35 : tie.Need-returns-35
-returns-35 c = not-listed _ (c .match .rest)
+unfolding fixedPart lookup
+returns-35 c = listed _ 96 _ (c .match .keys35) refl
+
+returns-36 : tie.Need-returns-36
+returns-36 c = not-listed _ (c .match .rest)
 
 pub fixed-part-spec : {M : Type 1} → statement M
 fixed-part-spec =
@@ -182,4 +186,5 @@ fixed-part-spec =
     returns-32
     returns-33
     returns-34
-    returns-35)
+    returns-35
+    returns-36)

@@ -1,9 +1,15 @@
 -- `alignment::matching::colour` meets its contract. Assumes nothing.
+use mathlib.Core.Path.{_≡_, sym, _∙_}
+use mathlib.Core.Logic.{⊎-elim}
+use denote.Ref.{now}
 use Rattle.binary.specs.Binary.{bit}
 use Rattle.alignment.specs.Known.{colourAt}
+use Rattle.alignment.specs.Template.{moduleDark}
+use Rattle.alignment.proofs.Lenses.{dark-plain}
 use borrow.Author.Needs.{needs}
 use Rattle.alignment.proofs.matching.colour.Statement.{statement}
 use Rattle.alignment.proofs.matching.colour.Tie as tie
+use Rattle.alignment.proofs.matching.colour.Lts as lts
 
 add-half-of : tie.Need-add-half-of
 add-half-of c = search needs
@@ -17,25 +23,33 @@ add-half-of-2 c = search needs
 half-of-requires-2 : tie.Need-half-of-requires-2
 half-of-requires-2 c κs = search needs
 
-module-is-dark-requires : tie.Need-module-is-dark-requires
-module-is-dark-requires c κs = search needs
+plain-is-dark-requires : tie.Need-plain-is-dark-requires
+plain-is-dark-requires c κs = search needs
+
+bent-is-dark-requires : tie.Need-bent-is-dark-requires
+bent-is-dark-requires c κs = search needs
 
 returns : tie.Need-returns
 unfolding colourAt bit
-returns c = rw (← c .before .before .before .half-of .ensures, ← c .before .before .half-of2 .ensures, ← c .before .module-is-dark .ensures, c .if1 .taken)
+returns c =
+    let j = c .before in
+    let h = j .before .before in
+    let a = h .before .before .before .args in
+    let e : j .if1 .dark ≡ moduleDark (now (a .bits)) (a .width) (a .height) (a .t) (h .before .half-of .result) (h .half-of2 .result) =
+    ⊎-elim (λ w. w .2 ∙ w .1 .ensures ∙ sym (dark-plain _ _ _ _ (w .0 .taken) _ _)) (λ w. w .2 ∙ w .1 .ensures) (j .if1 .came) in
+    rw (← h .before .half-of .ensures, ← h .half-of2 .ensures, ← e, c .if2 .taken)
 
 returns-2 : tie.Need-returns-2
 unfolding colourAt bit
-returns-2 c = rw (← c .before .before .before .half-of .ensures, ← c .before .before .half-of2 .ensures, ← c .before .module-is-dark .ensures, c .if1 .left)
+returns-2 c =
+    let j = c .before in
+    let h = j .before .before in
+    let a = h .before .before .before .args in
+    let e : j .if1 .dark ≡ moduleDark (now (a .bits)) (a .width) (a .height) (a .t) (h .before .half-of .result) (h .half-of2 .result) =
+    ⊎-elim (λ w. w .2 ∙ w .1 .ensures ∙ sym (dark-plain _ _ _ _ (w .0 .taken) _ _)) (λ w. w .2 ∙ w .1 .ensures) (j .if1 .came) in
+    rw (← h .before .half-of .ensures, ← h .half-of2 .ensures, ← e, c .if2 .left)
 
 pub colour-spec : {M : Type 1} → statement M
 colour-spec =
     tie.close
-    (tie.spec
-    add-half-of
-    half-of-requires
-    add-half-of-2
-    half-of-requires-2
-    module-is-dark-requires
-    returns
-    returns-2)
+    (tie.spec add-half-of half-of-requires add-half-of-2 half-of-requires-2 plain-is-dark-requires bent-is-dark-requires returns returns-2)

@@ -5,6 +5,7 @@ use denote.Ref.{now}
 use lib.ListN.{length, take}
 use native.Mathlib.Omega.{arith}
 use Rattle.transform.specs.declared.Transform.{Transform}
+use Rattle.transform.specs.Fit.{plain}
 use Rattle.lists.specs.Lists.{flatMap}
 use Rattle.little_endian.specs.Bytes.{put}
 use Rattle.little_endian.proofs.Round.{length-put}
@@ -15,7 +16,7 @@ use Rattle.record.proofs.values.put_doubles.Statement.{statement}
 use Rattle.record.proofs.values.put_doubles.Tie as tie
 
 abbrev Inv-loop : tie.InvT-loop
-Inv-loop out₀ at x k₀ out k = (k ≤ 8) × (length out ≡ length out₀) × (out ≡ put (flatMap doubleBytes (take k (numbersOf (record { m = x })))) at out₀)
+Inv-loop out₀ at x k₀ out k = (k ≤ 8) × (length out ≡ length out₀) × (out ≡ put (flatMap doubleBytes (take k (numbersOf (plain x)))) at out₀)
 
 abbrev μ-loop : tie.MeasureT-loop
 μ-loop out₀ at x k₀ out k = 8 - k
@@ -52,7 +53,7 @@ loop-again : tie.Need-loop-again Inv-loop μ-loop
 loop-again c =
     let a = c .before .before .before .before .before .before .before .args in
     let l = c .before .before .before .before .before .loop in
-    let t : Transform = record { m = a .t3 } in
+    let t : Transform = plain (a .t3) in
     let e : c .before .before .put-double .last .0 ≡ put (flatMap doubleBytes (take (l .k + 1) (numbersOf t))) (a .at) (now (a .out)) =
     c .before .before .put-double .ensures ∙ number-more t (a .at) (l .k) (now (a .out)) (l .out) (c .before .before .before .before .loop-test .taken) (l .inv .2) in
     (omega (arith, c .before .before .before .before .loop-test .taken), ap length e ∙ length-put (flatMap doubleBytes (take (l .k + 1) (numbersOf t))) (a .at) (now (a .out)), e)
@@ -64,7 +65,7 @@ returns : tie.Need-returns Inv-loop μ-loop
 returns c =
     let a = c .before .before .before .args in
     let l = c .before .loop in
-    let t : Transform = record { m = a .t3 } in
+    let t : Transform = plain (a .t3) in
     let e : l .k ≡ 8 = omega (arith, c .loop-test .left) in
     l .inv .2 ∙ all-numbers t (l .k) (a .at) (now (a .out)) e
 
