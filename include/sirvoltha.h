@@ -43,7 +43,7 @@ enum { PLATE_GRAY8 = 1, PLATE_RGB8 = 3, PLATE_RGBA8 = 4 };
 #define PLATE_BLOCKS(w, h) ((((size_t)(w) + 7) / 8) * (((size_t)(h) + 7) / 8))
 #define PLATE_DETECTION_BYTES 367
 
-/* A call takes less stack than this, whatever the picture: 28,928 bytes, and where the dynamic linker binds memcpy at its first call what it
+/* A call takes less stack than this, whatever the picture: 29,056 bytes, and where the dynamic linker binds memcpy at its first call what it
    takes for that, some 3,000 bytes as measured (README.md). It holds for the single stages of sirvoltha_stages.h too. */
 #define PLATE_STACK_BYTES 40960
 
@@ -73,7 +73,7 @@ enum { PLATE_GRAY8 = 1, PLATE_RGB8 = 3, PLATE_RGBA8 = 4 };
                                           50  marker x and y in pixels (f32), 0 without a marker
                                           58  eight transform numbers m0 to m7 (f64): module coordinates (u, v) are at pixel
                                               ((m0 u + m1 v + m2) / d, (m3 u + m4 v + m5) / d), d = m6 u + m7 v + 1,
-                                              but d = 1e-9 where this is less than 1e-9 from 0
+                                              but d = 1e-9 where this is less than 1e-9 from 0; no lens is behind it
 
    Returns PLATE_DONE or a refusal. After 1 to 5 no byte has been written. After 6 detections is untouched, and the other buffers hold
    what they would hold after 0.

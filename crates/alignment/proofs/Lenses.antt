@@ -1,5 +1,5 @@
--- Transforms with lens terms (document 02, N12): at strength 0 the alignment functions answer what they answer without a lens, for any centre; and what
--- `refine_alignment` does with the terms. Assumes nothing.
+-- Transforms with lens terms (document 02, N12): what `refine_alignment` does with them; and that at strength 0 the alignment functions answer what they
+-- answer without a lens, for any centre. Assumes nothing.
 use Prim.Native.Nat.{ℕ, zero, suc, _*_}
 use mathlib.Core.Path.{_≡_, refl, ap, fun-ext}
 use mathlib.Core.Bool.{Bool, true, false, _&&_, cond}
@@ -26,6 +26,42 @@ use Rattle.alignment.specs.Alignment.{alignmentRefusal, matchOf, searche
 use Rattle.alignment.specs.Template.{tapped, noVotes, taps, moduleDark, centreOf, matchedOf}
 use Rattle.alignment.specs.declared.template.Votes.{Votes}
 use Rattle.alignment.proofs.Alike.{best-alike}
+
+-- ---- what `refine_alignment` does with lens terms; where it finds no marker, it keeps them (`refine-none`, Theorems.antt)
+module _ (bits : List ℕ) (w h : ℕ) (c : Corners) (v : ℕ) (t : Transform) (m : Float) where
+  -- where it rebuilds the transform, through the finders and the marker a, centre and strength are 0
+  pub refine-rebuilds : alignmentRefusal (length bits) w h v ≡ 0 → (a : Marker) → locatedOf bits w h t v m ≡ a → isFound a ≡ true → builtOf c a v .fit .found ≡ true
+      → refineOf bits w h c v t m ≡ record { refusal = 0; transform = plain (builtOf c a v .fit .transform .m); marker = a }
+  unfolding refineOf rebuiltOf
+  refine-rebuilds e a l f b = rw (e, l, f, b) (ap (λ (u : Transform). refined 0 u a) (built-plain c a v))
+
+  -- where there is no such transform, it keeps those of the one given
+  pub refine-keeps : alignmentRefusal (length bits) w h v ≡ 0 → (a : Marker) → locatedOf bits w h t v m ≡ a → builtOf c a v .fit .found ≡ false
+      → refineOf bits w h c v t m ≡ record { refusal = 0; transform = t; marker = a }
+  unfolding refineOf rebuiltOf
+  refine-keeps e a l b = rw (e, l, b) (go (isFound a))
+    where
+      go : (f : Bool) → refined 0 (cond (f && false) (builtOf c a v .fit .transform) t) a ≡ record { refusal = 0; transform = t; marker = a }
+      go true = refl
+      go false = refl
+
+  -- after a refusal all of them are 0
+  pub refine-refused : (n : ℕ) → alignmentRefusal (length bits) w h v ≡ suc n → refineOf bits w h c v t m ≡ record { refusal = suc n; transform = zeroTransform; marker = Missing }
+  unfolding refineOf
+  refine-refused n e = rw e
+
+  -- a transform without a lens never gets one
+  pub refined-plain : Plain t → Plain (refineOf bits w h c v t m .transform)
+  unfolding refineOf rebuiltOf
+  refined-plain p = go (alignmentRefusal (length bits) w h v) (isFound a && builtOf c a v .fit .found)
+    where
+      a : Marker
+      a = locatedOf bits w h t v m
+
+      go : (n : ℕ) (b : Bool) → Plain (unless n zeroTransform (cond b (builtOf c a v .fit .transform) t))
+      go zero true = built-plain c a v
+      go zero false = p
+      go (suc n) b = refl
 
 -- ---- strength 0
 module _ (bits : List ℕ) (w h : ℕ) (t : Transform) (e : eq (t .strength) d0 ≡ true) where
@@ -78,39 +114,3 @@ module _ (bits : List ℕ) (w h : ℕ) (t : Transform) (e : eq (t .strength) d0 
       go : (n : ℕ) → unless n zeroTransform (rebuiltOf c a v t) .m ≡ unless n zeroTransform (rebuiltOf c a v (plain (t .m))) .m
       go zero = numbers-plain c a v
       go (suc n) = refl
-
--- ---- what `refine_alignment` does with lens terms; where it finds no marker, it keeps them (`refine-none`, Theorems.antt)
-module _ (bits : List ℕ) (w h : ℕ) (c : Corners) (v : ℕ) (t : Transform) (m : Float) where
-  -- where it rebuilds the transform, through the finders and the marker a, centre and strength are 0
-  pub refine-rebuilds : alignmentRefusal (length bits) w h v ≡ 0 → (a : Marker) → locatedOf bits w h t v m ≡ a → isFound a ≡ true → builtOf c a v .fit .found ≡ true
-      → refineOf bits w h c v t m ≡ record { refusal = 0; transform = plain (builtOf c a v .fit .transform .m); marker = a }
-  unfolding refineOf rebuiltOf
-  refine-rebuilds e a l f b = rw (e, l, f, b) (ap (λ (u : Transform). refined 0 u a) (built-plain c a v))
-
-  -- where there is no such transform, it keeps those of the one given
-  pub refine-keeps : alignmentRefusal (length bits) w h v ≡ 0 → (a : Marker) → locatedOf bits w h t v m ≡ a → builtOf c a v .fit .found ≡ false
-      → refineOf bits w h c v t m ≡ record { refusal = 0; transform = t; marker = a }
-  unfolding refineOf rebuiltOf
-  refine-keeps e a l b = rw (e, l, b) (go (isFound a))
-    where
-      go : (f : Bool) → refined 0 (cond (f && false) (builtOf c a v .fit .transform) t) a ≡ record { refusal = 0; transform = t; marker = a }
-      go true = refl
-      go false = refl
-
-  -- after a refusal all of them are 0
-  pub refine-refused : (n : ℕ) → alignmentRefusal (length bits) w h v ≡ suc n → refineOf bits w h c v t m ≡ record { refusal = suc n; transform = zeroTransform; marker = Missing }
-  unfolding refineOf
-  refine-refused n e = rw e
-
-  -- a transform without a lens never gets one
-  pub refined-plain : Plain t → Plain (refineOf bits w h c v t m .transform)
-  unfolding refineOf rebuiltOf
-  refined-plain p = go (alignmentRefusal (length bits) w h v) (isFound a && builtOf c a v .fit .found)
-    where
-      a : Marker
-      a = locatedOf bits w h t v m
-
-      go : (n : ℕ) (b : Bool) → Plain (unless n zeroTransform (cond b (builtOf c a v .fit .transform) t))
-      go zero true = built-plain c a v
-      go zero false = p
-      go (suc n) b = refl
