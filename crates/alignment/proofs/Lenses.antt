@@ -11,6 +11,7 @@ use Rattle.lists.specs.Lists.{folded}
 use Rattle.float.specs.Constants.{d0}
 use Rattle.float.specs.Steps.{plus32}
 use Rattle.lcr_core.specs.Outcome.{unless}
+use Rattle.lcr_core.proofs.Checks.{either, unless-either}
 use Rattle.transform.specs.Apply.{applied}
 use Rattle.transform.specs.Fit.{plain, Plain, zeroTransform}
 use Rattle.transform.specs.declared.Point.{Point}
@@ -53,15 +54,10 @@ module _ (bits : List ℕ) (w h : ℕ) (c : Corners) (v : ℕ) (t : Transform) (
   -- a transform without a lens never gets one
   pub refined-plain : Plain t → Plain (refineOf bits w h c v t m .transform)
   unfolding refineOf rebuiltOf
-  refined-plain p = go (alignmentRefusal (length bits) w h v) (isFound a && builtOf c a v .fit .found)
-    where
-      a : Marker
-      a = locatedOf bits w h t v m
-
-      go : (n : ℕ) (b : Bool) → Plain (unless n zeroTransform (cond b (builtOf c a v .fit .transform) t))
-      go zero true = built-plain c a v
-      go zero false = p
-      go (suc n) b = refl
+  refined-plain p =
+      let a = locatedOf bits w h t v m in
+      let b = builtOf c a v .fit in
+      unless-either Plain (alignmentRefusal (length bits) w h v) zeroTransform (rebuiltOf c a v t) refl (either Plain (isFound a && b .found) (b .transform) t (built-plain c a v) p)
 
 -- ---- strength 0
 module _ (bits : List ℕ) (w h : ℕ) (t : Transform) (e : eq (t .strength) d0 ≡ true) where

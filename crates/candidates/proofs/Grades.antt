@@ -13,6 +13,7 @@ use Rattle.lists.specs.Lists.{Each, Some, flatMap}
 use Rattle.lists.proofs.Filters.{each-map, each-both, each-getD, each-from, each-among, some-map}
 use Rattle.lists.proofs.Padded.{getD-padded, getD-table}
 use Rattle.lcr_core.specs.Outcome.{unless}
+use Rattle.lcr_core.proofs.Checks.{either}
 use Rattle.lcr_core.specs.declared.version.Found.{Found}
 use Rattle.lcr_core.specs.declared.version.Found.the-variants.{Is, Nothing}
 use Rattle.binary.specs.Refusal.{bitsRefusal}
@@ -45,17 +46,13 @@ module _ (bits : List ℕ) (w h : ℕ) (c : Corners) (s : Float) where
   nothing : Carries none
   nothing h = absurd (true≢false (sym h))
 
-  either : (v : Bool) (a b : Built) → Carries a → Carries b → Carries (cond v a b)
-  either true a b f g = f
-  either false a b f g = g
-
   carried-with : (v : ℕ) → Carries (buildWith bits w h c s v)
   unfolding buildWith
   carried-with v =
       let rough = fitWith bits w h c Missing v in
       let fit = fitWith bits w h c (markerBy bits w h c (rough .transform) v) v in
       let b = refinedFrom bits w h c s (fit .transform) v in
-      either (rough .found) (cond (fit .found) b none) none (either (fit .found) b none (λ _. (refl, refl, refl)) nothing) nothing
+      either Carries (rough .found) (cond (fit .found) b none) none (either Carries (fit .found) b none (λ _. (refl, refl, refl)) nothing) nothing
 
   carried : Carries (buildOf bits w h c s)
   unfolding buildOf

@@ -1,7 +1,7 @@
 -- No detection has a lens (document 02, N12: "transforms built from finders have strength 0"): centre and strength are 0 at each of the three places that
 -- `candidates_from` and `detect_candidates` answer, and in what `detect` answers, refused or not, so that the eight numbers say all. Assumes nothing.
 use mathlib.Core.Path.{refl}
-use mathlib.Core.Bool.{Bool, true, false, cond}
+use mathlib.Core.Bool.{cond}
 use mathlib.Core.List.{List, [], _∷_}
 use Prim.Native.Nat.{ℕ, zero, suc, _-_}
 use lib.Ieee.{Float}
@@ -9,6 +9,7 @@ use lib.ListN.{length, replicate}
 use Rattle.lists.specs.Lists.{Each}
 use Rattle.lists.proofs.Filters.{each-append, each-map, each-among}
 use Rattle.lcr_core.specs.Outcome.{unless}
+use Rattle.lcr_core.proofs.Checks.{either}
 use Rattle.lcr_core.specs.declared.version.Found.{Found}
 use Rattle.lcr_core.specs.declared.version.Found.the-variants.{Is, Nothing}
 use Rattle.binary.specs.Refusal.{bitsRefusal}
@@ -30,9 +31,8 @@ use Rattle.candidates.proofs.Grades.{each-kept}
 
 -- ---- what is built, and a place where nothing is
 module _ (bits : List ℕ) (w h : ℕ) (c : Corners) (s : Float) where
-  either-plain : (v : Bool) (a b : Built) → WithoutLens (a .detection) → WithoutLens (b .detection) → WithoutLens (cond v a b .detection)
-  either-plain true a b p q = p
-  either-plain false a b p q = q
+  abbrev PlainBuilt : Built → Type 0
+  PlainBuilt b = WithoutLens (b .detection)
 
   with-plain : (v : ℕ) → WithoutLens (buildWith bits w h c s v .detection)
   unfolding buildWith
@@ -42,7 +42,7 @@ module _ (bits : List ℕ) (w h : ℕ) (c : Corners) (s : Float) where
       let a = markerBy bits w h c (rough .transform) v in
       let fit = fitWith bits w h c a v in
       let b = refinedFrom bits w h c s (fit .transform) v in
-      either-plain (rough .found) (cond (fit .found) b none) none (either-plain (fit .found) b none (refined-plain bits w h c v (fit .transform) m (built-plain c a v)) refl) refl
+      either PlainBuilt (rough .found) (cond (fit .found) b none) none (either PlainBuilt (fit .found) b none (refined-plain bits w h c v (fit .transform) m (built-plain c a v)) refl) refl
 
   build-plain : WithoutLens (buildOf bits w h c s .detection)
   unfolding buildOf

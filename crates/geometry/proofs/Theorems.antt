@@ -17,8 +17,8 @@ use Rattle.geometry.specs.Estimate.{nearestVersion}
 use Rattle.transform.specs.Fit.{Plain}
 use Rattle.transform.specs.declared.Fit.{Fit}
 use Rattle.transform.proofs.Theorems.{quad-plain, triangle-plain}
-use Rattle.lcr_core.specs.Outcome.{unless}
 use Rattle.lcr_core.specs.Version.{versionRefusal, sideOf}
+use Rattle.lcr_core.proofs.Checks.{either, unless-either}
 use Rattle.geometry.specs.Build.{affineOf, homographyOf, orElse, symbolFit, noFit, builtOf}
 use Rattle.geometry.specs.declared.Finder.{Finder}
 use Rattle.geometry.specs.declared.Corners.{Corners}
@@ -103,9 +103,8 @@ module _ (c : Corners) where
   unfolding affineOf
   affine-plain side = triangle-plain _ _
 
-  either-plain : (b : Bool) (f g : Fit) → Plain (f .transform) → Plain (g .transform) → Plain (cond b f g .transform)
-  either-plain true f g p q = p
-  either-plain false f g p q = q
+  abbrev PlainFit : Fit → Type 0
+  PlainFit f = Plain (f .transform)
 
   fit-plain : (a : Marker) (v : ℕ) → Plain (symbolFit c a v .transform)
   unfolding symbolFit homographyOf
@@ -114,12 +113,8 @@ module _ (c : Corners) where
       let side = whole32 (sideOf v) in
       let h = homographyOf c p side in
       let g = affineOf c side in
-      either-plain (ltb v 2) g (orElse h g) (affine-plain side) (either-plain (h .found) h g (quad-plain _ _) (affine-plain side))
+      either PlainFit (ltb v 2) g (orElse h g) (affine-plain side) (either PlainFit (h .found) h g (quad-plain _ _) (affine-plain side))
 
   pub built-plain : (a : Marker) (v : ℕ) → Plain (builtOf c a v .fit .transform)
   unfolding builtOf
-  built-plain a v = go (versionRefusal v)
-    where
-      go : (n : ℕ) → Plain (unless n noFit (symbolFit c a v) .transform)
-      go zero = fit-plain a v
-      go (suc n) = refl
+  built-plain a v = unless-either PlainFit (versionRefusal v) noFit (symbolFit c a v) refl (fit-plain a v)

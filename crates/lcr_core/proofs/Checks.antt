@@ -12,6 +12,15 @@ pub or-false : (a b : Bool) → a || b ≡ false → (a ≡ false) × (b ≡ fal
 or-false true b e = let z : _≡_ {A = Bool} true false = e in (z, cc)
 or-false false b e = (refl, e)
 
+-- what holds of both holds of the one that is taken
+pub either : {A : Type 0} (P : A → Type 0) (b : Bool) (x y : A) → P x → P y → P (cond b x y)
+either P true x y p q = p
+either P false x y p q = q
+
+pub unless-either : {A : Type 0} (P : A → Type 0) (n : ℕ) (x y : A) → P x → P y → P (unless n x y)
+unless-either P zero x y p q = q
+unless-either P (suc n) x y p q = p
+
 -- where a list of checks gives 0, its first does not refuse, and the others give 0
 pub first-passes : (b : Bool) (n rest : ℕ) → cond b (suc n) rest ≡ 0 → (b ≡ false) × (rest ≡ 0)
 first-passes true n rest e = absurd (omega arith)

@@ -9,7 +9,11 @@ use Rattle.alignment.proofs.Lenses.{dark-plain}
 use borrow.Author.Needs.{needs}
 use Rattle.alignment.proofs.matching.colour.Statement.{statement}
 use Rattle.alignment.proofs.matching.colour.Tie as tie
-use Rattle.alignment.proofs.matching.colour.Lts as lts
+
+-- by either way
+dark-is : (c : tie.Joined1) → let h = c .before .before in let a = h .before .before .before .args in
+    c .if1 .dark ≡ moduleDark (now (a .bits)) (a .width) (a .height) (a .t) (h .before .half-of .result) (h .half-of2 .result)
+dark-is c = ⊎-elim (λ w. w .2 ∙ w .1 .ensures ∙ sym (dark-plain _ _ _ _ (w .0 .taken) _ _)) (λ w. w .2 ∙ w .1 .ensures) (c .if1 .came)
 
 add-half-of : tie.Need-add-half-of
 add-half-of c = search needs
@@ -31,23 +35,11 @@ bent-is-dark-requires c κs = search needs
 
 returns : tie.Need-returns
 unfolding colourAt bit
-returns c =
-    let j = c .before in
-    let h = j .before .before in
-    let a = h .before .before .before .args in
-    let e : j .if1 .dark ≡ moduleDark (now (a .bits)) (a .width) (a .height) (a .t) (h .before .half-of .result) (h .half-of2 .result) =
-    ⊎-elim (λ w. w .2 ∙ w .1 .ensures ∙ sym (dark-plain _ _ _ _ (w .0 .taken) _ _)) (λ w. w .2 ∙ w .1 .ensures) (j .if1 .came) in
-    rw (← h .before .half-of .ensures, ← h .half-of2 .ensures, ← e, c .if2 .taken)
+returns c = rw (← c .before .before .before .before .half-of .ensures, ← c .before .before .before .half-of2 .ensures, ← dark-is (c .before), c .if2 .taken)
 
 returns-2 : tie.Need-returns-2
 unfolding colourAt bit
-returns-2 c =
-    let j = c .before in
-    let h = j .before .before in
-    let a = h .before .before .before .args in
-    let e : j .if1 .dark ≡ moduleDark (now (a .bits)) (a .width) (a .height) (a .t) (h .before .half-of .result) (h .half-of2 .result) =
-    ⊎-elim (λ w. w .2 ∙ w .1 .ensures ∙ sym (dark-plain _ _ _ _ (w .0 .taken) _ _)) (λ w. w .2 ∙ w .1 .ensures) (j .if1 .came) in
-    rw (← h .before .half-of .ensures, ← h .half-of2 .ensures, ← e, c .if2 .left)
+returns-2 c = rw (← c .before .before .before .before .half-of .ensures, ← c .before .before .before .half-of2 .ensures, ← dark-is (c .before), c .if2 .left)
 
 pub colour-spec : {M : Type 1} → statement M
 colour-spec =
