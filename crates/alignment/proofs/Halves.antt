@@ -50,11 +50,11 @@ add_is f (fin u m e) (fin k n g) t a b c C v w = rw (v.0, w.0) (go t)
     E_pos : 0 < E
     E_pos = mul-pos (down_pos e) (down_pos g)
 
-    a-is : A * c ≡ a * E
-    a-is = mul_right_comm (m * up e) (down g) c ∙ ap (λ (z : ℕ). z * down g) v.1 ∙ mul_assoc a (down e) (down g)
+    a_is : A * c ≡ a * E
+    a_is = mul_right_comm (m * up e) (down g) c ∙ ap (λ (z : ℕ). z * down g) v.1 ∙ mul_assoc a (down e) (down g)
 
-    b-is : B * c ≡ b * E
-    b-is = mul_right_comm (n * up g) (down e) c ∙ ap (λ (z : ℕ). z * down e) w.1 ∙ mul_assoc b (down g) (down e) ∙ ap (λ (z : ℕ). b * z) (mul_comm (down g) (down e))
+    b_is : B * c ≡ b * E
+    b_is = mul_right_comm (n * up g) (down e) c ∙ ap (λ (z : ℕ). z * down e) w.1 ∙ mul_assoc b (down g) (down e) ∙ ap (λ (z : ℕ). b * z) (mul_comm (down g) (down e))
 
     order : ltb a b ≡ ltb A B
     order = by (ltb a b) refl
@@ -62,23 +62,23 @@ add_is f (fin u m e) (fin k n g) t a b c C v w = rw (v.0, w.0) (go t)
         by : (z : Bool) → ltb a b ≡ z → z ≡ ltb A B
         by true h =
             let l = ltb-true a b h in
-            sym (lt-ltb A B (lt_of_mul-lt-mul_right c (lt_of_le_of_lt (le_of_eq a-is) (lt_of_lt_of_le (mul-lt-mul_of_pos_right l E_pos) (le_of_eq (sym b-is))))))
+            sym (lt-ltb A B (lt_of_mul-lt-mul_right c (lt_of_le_of_lt (le_of_eq a_is) (lt_of_lt_of_le (mul-lt-mul_of_pos_right l E_pos) (le_of_eq (sym b_is))))))
         by false h =
             let l = ltb-false a b h in
-            sym (le-ltb A B (le_of_mul-le-mul_right (le_trans (le_of_eq b-is) (le_trans (mul-le-mul_right E l) (le_of_eq (sym a-is)))) C))
+            sym (le-ltb A B (le_of_mul-le-mul_right (le_trans (le_of_eq b_is) (le_trans (mul-le-mul_right E l) (le_of_eq (sym a_is)))) C))
 
     down_by : (z : Bool) → ltb a b ≡ z → cond z (round f true (B - A) E) (round f false (A - B) E) ≡ cond z (round f true (b - a) c) (round f false (a - b) c)
     down_by true h =
         let l = ltb-true a b h in
         let k = ltb-true A B (sym order ∙ h) in
-        round_same f true (B - A) E (b - a) c E_pos C (apart B A c b a E (B - A) (b - a) b-is a-is (omega arith) (omega arith))
+        round_same f true (B - A) E (b - a) c E_pos C (apart B A c b a E (B - A) (b - a) b_is a_is (omega arith) (omega arith))
     down_by false h =
         let l = ltb-false a b h in
         let k = ltb-false A B (sym order ∙ h) in
-        round_same f false (A - B) E (a - b) c E_pos C (apart A B c a b E (A - B) (a - b) a-is b-is (omega arith) (omega arith))
+        round_same f false (A - B) E (a - b) c E_pos C (apart A B c a b E (A - B) (a - b) a_is b_is (omega arith) (omega arith))
 
     go : (t : Bool) → sum f false A t B E ≡ cond (not t) (round f false (a + b) c) (cond (ltb a b) (round f true (b - a) c) (round f false (a - b) c))
-    go false = round_same f false (A + B) E (a + b) c E_pos C (more A B c a b E a-is b-is)
+    go false = round_same f false (A + B) E (a + b) c E_pos C (more A B c a b E a_is b_is)
     go true = rw (← order) (down_by (ltb a b) refl)
 
 -- ---- values

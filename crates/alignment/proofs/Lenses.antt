@@ -16,40 +16,40 @@ use Rattle.transform.specs.Apply.{applied}
 use Rattle.transform.specs.Fit.{plain, Plain, zero_transform}
 use Rattle.transform.specs.declared.Point.{Point}
 use Rattle.transform.specs.declared.Transform.{Transform}
-use Rattle.transform.proofs.Theorems.{same-places}
+use Rattle.transform.proofs.Theorems.{same_places}
 use Rattle.geometry.specs.Build.{built_of}
 use Rattle.geometry.specs.declared.Corners.{Corners}
 use Rattle.geometry.specs.declared.Marker.{Marker}
 use Rattle.geometry.specs.declared.Marker.TheVariants.{Missing}
-use Rattle.geometry.proofs.Theorems.{built-plain}
+use Rattle.geometry.proofs.Theorems.{built_plain}
 use Rattle.rows.specs.Rows.{answer, find_of}
 use Rattle.alignment.specs.Alignment.{alignment_refusal, match_of, searched_of, located_of, locate_of, is_found, rebuilt_of, refined, refine_of}
-use Rattle.alignment.specs.Template.{tapped, no_votes, taps, moduleDark, centre_of, matched_of}
+use Rattle.alignment.specs.Template.{tapped, no_votes, taps, module_dark, centre_of, matched_of}
 use Rattle.alignment.specs.declared.template.Votes.{Votes}
-use Rattle.alignment.proofs.Alike.{best-alike}
+use Rattle.alignment.proofs.Alike.{best_alike}
 
 -- ---- what `refine_alignment` does with lens terms; where it finds no marker, it keeps them (`refine_none`, Theorems.antt)
 module _ (bits : List ℕ) (w h : ℕ) (c : Corners) (v : ℕ) (t : Transform) (m : Float) where
   -- where it rebuilds the transform, through the finders and the marker a, centre and strength are 0
-  pub refine-rebuilds : alignment_refusal (length bits) w h v ≡ 0 → (a : Marker) → located_of bits w h t v m ≡ a → is_found a ≡ true → (built_of c a v).fit.found ≡ true
+  pub refine_rebuilds : alignment_refusal (length bits) w h v ≡ 0 → (a : Marker) → located_of bits w h t v m ≡ a → is_found a ≡ true → (built_of c a v).fit.found ≡ true
       → refine_of bits w h c v t m ≡ record { refusal = 0; transform = plain (built_of c a v).fit.transform.m; marker = a }
   unfolding refine_of rebuilt_of
-  refine-rebuilds e a l f b = rw (e, l, f, b) (ap (λ (u : Transform). refined 0 u a) (built-plain c a v))
+  refine_rebuilds e a l f b = rw (e, l, f, b) (ap (λ (u : Transform). refined 0 u a) (built_plain c a v))
 
   -- where there is no such transform, it keeps those of the one given
-  pub refine-keeps : alignment_refusal (length bits) w h v ≡ 0 → (a : Marker) → located_of bits w h t v m ≡ a → (built_of c a v).fit.found ≡ false
+  pub refine_keeps : alignment_refusal (length bits) w h v ≡ 0 → (a : Marker) → located_of bits w h t v m ≡ a → (built_of c a v).fit.found ≡ false
       → refine_of bits w h c v t m ≡ record { refusal = 0; transform = t; marker = a }
   unfolding refine_of rebuilt_of
-  refine-keeps e a l b = rw (e, l, b) (go (is_found a))
+  refine_keeps e a l b = rw (e, l, b) (go (is_found a))
     where
       go : (f : Bool) → refined 0 (cond (f && false) (built_of c a v).fit.transform t) a ≡ record { refusal = 0; transform = t; marker = a }
       go true = refl
       go false = refl
 
   -- after a refusal all of them are 0
-  pub refine-refused : (n : ℕ) → alignment_refusal (length bits) w h v ≡ suc n → refine_of bits w h c v t m ≡ record { refusal = suc n; transform = zero_transform; marker = Missing }
+  pub refine_refused : (n : ℕ) → alignment_refusal (length bits) w h v ≡ suc n → refine_of bits w h c v t m ≡ record { refusal = suc n; transform = zero_transform; marker = Missing }
   unfolding refine_of
-  refine-refused n e = rw e
+  refine_refused n e = rw e
 
   -- a transform without a lens never gets one
   pub refined-plain : Plain t → Plain (refine_of bits w h c v t m).transform
@@ -57,56 +57,56 @@ module _ (bits : List ℕ) (w h : ℕ) (c : Corners) (v : ℕ) (t : Transform) (
   refined-plain p =
       let a = located_of bits w h t v m in
       let b = (built_of c a v).fit in
-      unless_either Plain (alignment_refusal (length bits) w h v) zero_transform (rebuilt_of c a v t) refl (either Plain (is_found a && b.found) b.transform t (built-plain c a v) p)
+      unless_either Plain (alignment_refusal (length bits) w h v) zero_transform (rebuilt_of c a v t) refl (either Plain (is_found a && b.found) b.transform t (built_plain c a v) p)
 
 -- ---- strength 0
 module _ (bits : List ℕ) (w h : ℕ) (t : Transform) (e : eq t.strength d0 ≡ true) where
   places : applied t ≡ applied (plain t.m)
-  places = fun_ext (λ u. fun_ext (same-places t e u))
+  places = fun_ext (λ u. fun_ext (same_places t e u))
 
-  pub dark-plain : (x y : Float) → moduleDark bits w h t x y ≡ moduleDark bits w h (plain t.m) x y
-  unfolding moduleDark
-  dark-plain x y =
+  pub dark_plain : (x y : Float) → module_dark bits w h t x y ≡ module_dark bits w h (plain t.m) x y
+  unfolding module_dark
+  dark_plain x y =
       ap (λ (f : Float → Float → Point). let v = folded (λ (v : Votes) (o : Point). tapped bits w h v (f (plus32 x o.x) (plus32 y o.y))) no_votes taps in ltb v.seen (v.dark * 2)) places
 
-  matched-plain : (v : ℕ) → matched_of bits w h t v ≡ matched_of bits w h (plain t.m) v
+  matched_plain : (v : ℕ) → matched_of bits w h t v ≡ matched_of bits w h (plain t.m) v
   unfolding matched_of
-  matched-plain v = rw (best-alike bits bits w h t (plain t.m) dark-plain (centre_of v), same-places t e _ _)
+  matched_plain v = rw (best_alike bits bits w h t (plain t.m) dark_plain (centre_of v), same_places t e _ _)
 
-  searched-plain : (v : ℕ) (m : Float) → searched_of bits w h t v m ≡ searched_of bits w h (plain t.m) v m
+  searched_plain : (v : ℕ) (m : Float) → searched_of bits w h t v m ≡ searched_of bits w h (plain t.m) v m
   unfolding searched_of
-  searched-plain v m = ap (λ (p : Point). (find_of bits w h p m).marker) (same-places t e (centre_of v) (centre_of v))
+  searched_plain v m = ap (λ (p : Point). (find_of bits w h p m).marker) (same_places t e (centre_of v) (centre_of v))
 
-  located-plain : (v : ℕ) (m : Float) → located_of bits w h t v m ≡ located_of bits w h (plain t.m) v m
+  located_plain : (v : ℕ) (m : Float) → located_of bits w h t v m ≡ located_of bits w h (plain t.m) v m
   unfolding located_of
-  located-plain v m = rw (matched-plain v, searched-plain v m)
+  located_plain v m = rw (matched_plain v, searched_plain v m)
 
   -- `match_alignment` and `locate_alignment`
-  pub match-plain : (v : ℕ) → match_of bits w h t v ≡ match_of bits w h (plain t.m) v
+  pub match_plain : (v : ℕ) → match_of bits w h t v ≡ match_of bits w h (plain t.m) v
   unfolding match_of
-  match-plain v = ap (answer (alignment_refusal (length bits) w h v)) (matched-plain v)
+  match_plain v = ap (answer (alignment_refusal (length bits) w h v)) (matched_plain v)
 
-  pub locate-plain : (v : ℕ) (m : Float) → locate_of bits w h t v m ≡ locate_of bits w h (plain t.m) v m
+  pub locate_plain : (v : ℕ) (m : Float) → locate_of bits w h t v m ≡ locate_of bits w h (plain t.m) v m
   unfolding locate_of
-  locate-plain v m = ap (answer (alignment_refusal (length bits) w h v)) (located-plain v m)
+  locate_plain v m = ap (answer (alignment_refusal (length bits) w h v)) (located_plain v m)
 
   -- `refine_alignment`: the same refusal, the same marker and the same eight numbers
-  numbers-plain : (c : Corners) (a : Marker) (v : ℕ) → (rebuilt_of c a v t).m ≡ (rebuilt_of c a v (plain t.m)).m
+  numbers_plain : (c : Corners) (a : Marker) (v : ℕ) → (rebuilt_of c a v t).m ≡ (rebuilt_of c a v (plain t.m)).m
   unfolding rebuilt_of
-  numbers-plain c a v = go (is_found a && (built_of c a v).fit.found)
+  numbers_plain c a v = go (is_found a && (built_of c a v).fit.found)
     where
       go : (b : Bool) → (cond b (built_of c a v).fit.transform t).m ≡ (cond b (built_of c a v).fit.transform (plain t.m)).m
       go true = refl
       go false = refl
 
-  pub refine-plain : (c : Corners) (v : ℕ) (m : Float) → let r = refine_of bits w h c v t m in let s = refine_of bits w h c v (plain t.m) m in
+  pub refine_plain : (c : Corners) (v : ℕ) (m : Float) → let r = refine_of bits w h c v t m in let s = refine_of bits w h c v (plain t.m) m in
       (r.refusal ≡ s.refusal) × (r.marker ≡ s.marker) × (r.transform.m ≡ s.transform.m)
   unfolding refine_of
-  refine-plain c v m = rw (located-plain v m) (refl, refl, go (alignment_refusal (length bits) w h v))
+  refine_plain c v m = rw (located_plain v m) (refl, refl, go (alignment_refusal (length bits) w h v))
     where
       a : Marker
       a = located_of bits w h (plain t.m) v m
 
       go : (n : ℕ) → (unless n zero_transform (rebuilt_of c a v t)).m ≡ (unless n zero_transform (rebuilt_of c a v (plain t.m))).m
-      go zero = numbers-plain c a v
+      go zero = numbers_plain c a v
       go (suc n) = refl

@@ -30,24 +30,24 @@ finite (fin s m e) = true
 
 -- what holds of every finite float of a sign and of its infinity holds of what is rounded with that sign
 module _ (P : Float → Type 0) (s : Bool) (held : (m : ℕ) (e : ℤ) → P (fin s m e)) (beyond : P (inf s)) where
-  odd-has : (d q k l : ℕ) → P (odd d s q k l)
+  odd_has : (d q k l : ℕ) → P (odd d s q k l)
   unfolding odd
-  odd-has d zero k l = held zero (pos zero)
-  odd-has d (suc q) k l = held _ _
+  odd_has d zero k l = held zero (pos zero)
+  odd_has d (suc q) k l = held _ _
 
-  units-has : (f : Format) (q k : ℕ) → P (units f s q k)
+  units_has : (f : Format) (q k : ℕ) → P (units f s q k)
   unfolding units
-  units-has f q k = go (ltb (q * 2 ^ k) (2 ^ (low f + suc (emax f))))
+  units_has f q k = go (ltb (q * 2 ^ k) (2 ^ (low f + suc (emax f))))
     where
       go : (b : Bool) → P (cond b (odd (suc (prec f)) s q k (low f)) (inf s))
-      go true = odd-has (suc (prec f)) q k (low f)
+      go true = odd_has (suc (prec f)) q k (low f)
       go false = beyond
 
-  round-has : (f : Format) (a c : ℕ) → P (round f s a c)
-  round-has f a c = subst P (sym (round_is f s a c)) (units-has f _ _)
+  round_has : (f : Format) (a c : ℕ) → P (round f s a c)
+  round_has f a c = subst P (sym (round_is f s a c)) (units_has f _ _)
 
 round_number : (f : Format) (s : Bool) (a c : ℕ) → Number (round f s a c)
-round_number f s = round-has Number s (λ m e. tt) tt f
+round_number f s = round_has Number s (λ m e. tt) tt f
 
 sum_number : (f : Format) (s : Bool) (a : ℕ) (t : Bool) (b c : ℕ) → Number (sum f s a t b c)
 unfolding sum
@@ -73,8 +73,8 @@ unfolding mul
 square_clear f nan n = n
 square_clear f (inf true) n = tt
 square_clear f (inf false) n = tt
-square_clear f (fin true m e) n = round-has Clear false (λ k d. tt) tt f _ _
-square_clear f (fin false m e) n = round-has Clear false (λ k d. tt) tt f _ _
+square_clear f (fin true m e) n = round_has Clear false (λ k d. tt) tt f _ _
+square_clear f (fin false m e) n = round_has Clear false (λ k d. tt) tt f _ _
 
 clear_sum : (f : Format) (x y : Float) → Clear x → Clear y → Number (add f x y)
 unfolding add

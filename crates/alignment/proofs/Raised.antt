@@ -12,7 +12,7 @@ use Rattle.lists.specs.Lists.{folded, range}
 use Rattle.float.specs.Constants.{f0, half, f1/8, f1/32}
 use Rattle.transform.specs.declared.Transform.{Transform}
 use Rattle.alignment.specs.declared.template.Site.{Site}
-use Rattle.alignment.specs.Template.{no_site, beats, better_of, siteOf, visited, sweepBest, bestOf}
+use Rattle.alignment.specs.Template.{no_site, beats, better_of, site_of, visited, sweep_best, best_of}
 use Rattle.alignment.specs.Known.{raised_of, SameFrom}
 
 better_less : (n : ℕ) (p s : Site) → p.score < n → s.score < n → (better_of p s).score < n
@@ -60,25 +60,25 @@ raised_place b = go (ltb b.score 22)
 
 module _ (bits : List ℕ) (w h : ℕ) (t : Transform) (c : Float) where
   -- a sweep about another site at the same place
-  sweep-at : (m : ℕ) (step : Float) (p q : Site) → p.x ≡ q.x → p.y ≡ q.y → sweepBest bits w h t c m step p ≡ folded (visited bits w h t c m step q.x q.y) p (range 0 (m * m))
-  unfolding sweepBest
-  sweep-at m step p q e f =
+  sweep_at : (m : ℕ) (step : Float) (p q : Site) → p.x ≡ q.x → p.y ≡ q.y → sweep_best bits w h t c m step p ≡ folded (visited bits w h t c m step q.x q.y) p (range 0 (m * m))
+  unfolding sweep_best
+  sweep_at m step p q e f =
       ap (λ (z : Float). folded (visited bits w h t c m step z p.y) p (range 0 (m * m))) e ∙ ap (λ (z : Float). folded (visited bits w h t c m step q.x z) p (range 0 (m * m))) f
 
-  last-sweep : (m : ℕ) (step : Float) (b : Site) → SameFrom 23 (sweepBest bits w h t c m step (raised_of b)) (sweepBest bits w h t c m step b)
-  unfolding sweepBest
-  last-sweep m step b =
-      subst (λ (z : Site). SameFrom 23 z (sweepBest bits w h t c m step b)) (sym (sweep-at m step (raised_of b) b (raised_place b).0 (raised_place b).1))
-      (same_fold 23 (siteOf bits w h t c m step b.x b.y) (range 0 (m * m)) (raised_of b) b (raised_same b))
+  last_sweep : (m : ℕ) (step : Float) (b : Site) → SameFrom 23 (sweep_best bits w h t c m step (raised_of b)) (sweep_best bits w h t c m step b)
+  unfolding sweep_best
+  last_sweep m step b =
+      subst (λ (z : Site). SameFrom 23 z (sweep_best bits w h t c m step b)) (sym (sweep_at m step (raised_of b) b (raised_place b).0 (raised_place b).1))
+      (same_fold 23 (site_of bits w h t c m step b.x b.y) (range 0 (m * m)) (raised_of b) b (raised_same b))
 
   -- the three sweeps, the last about a raised site
-  pub best-by : (k : Float) (a b r s : Site) → k ≡ c → a ≡ sweepBest bits w h t c 13 half no_site → b ≡ sweepBest bits w h t k 9 f1/8 a → r ≡ raised_of b → s ≡ sweepBest bits w h t k 9 f1/32 r
-      → SameFrom 23 s (bestOf bits w h t c)
-  unfolding bestOf
-  best-by k a b r s e p q o z =
-      let q' : b ≡ sweepBest bits w h t c 9 f1/8 a = q ∙ ap (λ (y : Float). sweepBest bits w h t y 9 f1/8 a) e in
-      let z' : s ≡ sweepBest bits w h t c 9 f1/32 (raised_of b) = z ∙ ap (λ (y : Float). sweepBest bits w h t y 9 f1/32 r) e ∙ ap (sweepBest bits w h t c 9 f1/32) o in
-      rw (← p, ← q', z') (last-sweep 9 f1/32 b)
+  pub best_by : (k : Float) (a b r s : Site) → k ≡ c → a ≡ sweep_best bits w h t c 13 half no_site → b ≡ sweep_best bits w h t k 9 f1/8 a → r ≡ raised_of b → s ≡ sweep_best bits w h t k 9 f1/32 r
+      → SameFrom 23 s (best_of bits w h t c)
+  unfolding best_of
+  best_by k a b r s e p q o z =
+      let q' : b ≡ sweep_best bits w h t c 9 f1/8 a = q ∙ ap (λ (y : Float). sweep_best bits w h t y 9 f1/8 a) e in
+      let z' : s ≡ sweep_best bits w h t c 9 f1/32 (raised_of b) = z ∙ ap (λ (y : Float). sweep_best bits w h t y 9 f1/32 r) e ∙ ap (sweep_best bits w h t c 9 f1/32) o in
+      rw (← p, ← q', z') (last_sweep 9 f1/32 b)
 
 -- both have less than n, or both are the same site
 pub same_less : (n : ℕ) (r s : Site) → SameFrom n r s → r.score < n → ltb s.score n ≡ true

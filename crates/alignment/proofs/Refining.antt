@@ -28,12 +28,12 @@ module _ (corners : Corners) (a : Marker) (v : ℕ) (t : Transform) where
   unfolding rebuilt_of
   through b q = ap (chosen a t) q
 
-  pub rebuilt-found : (b : Built) → b ≡ built_of corners a v → is_found a ≡ true → b.fit.found ≡ true → b.fit.transform ≡ rebuilt_of corners a v t
-  rebuilt-found b q e f = rw (← through b q, e, f)
+  pub rebuilt_found : (b : Built) → b ≡ built_of corners a v → is_found a ≡ true → b.fit.found ≡ true → b.fit.transform ≡ rebuilt_of corners a v t
+  rebuilt_found b q e f = rw (← through b q, e, f)
 
-  pub rebuilt-none : (b : Built) → b ≡ built_of corners a v → is_found a ≡ true → b.fit.found ≡ false → t ≡ rebuilt_of corners a v t
-  rebuilt-none b q e f = rw (← through b q, e, f)
+  pub rebuilt_none : (b : Built) → b ≡ built_of corners a v → is_found a ≡ true → b.fit.found ≡ false → t ≡ rebuilt_of corners a v t
+  rebuilt_none b q e f = rw (← through b q, e, f)
 
-  pub rebuilt-missing : is_found a ≡ false → t ≡ rebuilt_of corners a v t
+  pub rebuilt_missing : is_found a ≡ false → t ≡ rebuilt_of corners a v t
   unfolding rebuilt_of
-  rebuilt-missing e = rw e
+  rebuilt_missing e = rw e

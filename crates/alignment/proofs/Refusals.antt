@@ -26,13 +26,13 @@ last_counts false false true rest h = absurd (omega arith)
 last_counts false false false rest h = refl
 
 module _ (len w h version r : ℕ) (e : r ≡ bits_refusal len w h) where
-  pub bits-refused : (r ≡ 0 → ⊥) → r ≡ alignment_refusal len w h version
+  pub bits_refused : (r ≡ 0 → ⊥) → r ≡ alignment_refusal len w h version
   unfolding bits_refusal alignment_refusal
-  bits-refused n = e ∙ first-stays (zero_side w h) (large_side w h) (short_bits len w h) _ (λ z. n (e ∙ z))
+  bits_refused n = e ∙ first-stays (zero_side w h) (large_side w h) (short_bits len w h) _ (λ z. n (e ∙ z))
 
-  pub version-refused : r ≡ 0 → (k : ℕ) → k ≡ version_refusal version → k ≡ alignment_refusal len w h version
+  pub version_refused : r ≡ 0 → (k : ℕ) → k ≡ version_refusal version → k ≡ alignment_refusal len w h version
   unfolding bits_refusal version_refusal alignment_refusal
-  version-refused z k q = q ∙ last_counts (zero_side w h) (large_side w h) (short_bits len w h) _ (sym e ∙ z)
+  version_refused z k q = q ∙ last_counts (zero_side w h) (large_side w h) (short_bits len w h) _ (sym e ∙ z)
 
 pub passed : (len w h version : ℕ) → alignment_refusal len w h version ≡ 0 → Sides w h
 unfolding alignment_refusal

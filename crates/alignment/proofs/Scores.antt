@@ -23,15 +23,15 @@ sum_most f h k zero = rw (add-zero, add-zero) (omega arith)
 sum_most f h k (suc j) = rw (add-suc k j) (omega (arith, sum_most f h k j, h (k + j)))
 
 module _ (bits : List ℕ) (w h : ℕ) (t : Transform) (x y : Float) where
-  pub agree-most : (k : ℕ) → agree bits w h t x y k ≤ 1
+  pub agree_most : (k : ℕ) → agree bits w h t x y k ≤ 1
   unfolding agree
-  agree-most k = bit_most _
+  agree_most k = bit_most _
 
   -- the score after k modules, n of which agree, cannot reach least
-  pub out-of-reach : (least k n : ℕ) → k ≤ 25 → n ≡ sum_to k (agree bits w h t x y) → n + (25 - k) < least → UpTo least (score_of bits w h t x y) n
+  pub out_of_reach : (least k n : ℕ) → k ≤ 25 → n ≡ sum_to k (agree bits w h t x y) → n + (25 - k) < least → UpTo least (score_of bits w h t x y) n
   unfolding score_of
-  out-of-reach least k n l e b =
-      let m = sum_most (agree bits w h t x y) agree-most k (25 - k) in
+  out_of_reach least k n l e b =
+      let m = sum_most (agree bits w h t x y) agree_most k (25 - k) in
       let z : k + (25 - k) ≡ 25 = omega arith in
       let g = rw z at m in
       inr (omega arith, omega (arith, g))
@@ -64,9 +64,9 @@ module _ (best s : Site) (least r : ℕ) (e : least ≡ least_of best s.dist) (u
       below (inl q) = omega arith
       below (inr q) = q.1
 
-  pub site-taken : least ≤ r → ◌≡◌ {A = Site} (record { score = r; dist = s.dist; x = s.x; y = s.y }) (better_of best s)
+  pub site_taken : least ≤ r → ◌≡◌ {A = Site} (record { score = r; dist = s.dist; x = s.x; y = s.y }) (better_of best s)
   unfolding better_of
-  site-taken h = go u
+  site_taken h = go u
     where
       go : UpTo least s.score r → ◌≡◌ {A = Site} (record { score = r; dist = s.dist; x = s.x; y = s.y }) (cond (beats s best) s best)
       go (inl q) = rw (beaten, le-leb least s.score (omega arith), q)

@@ -14,7 +14,7 @@ use Rattle.float.specs.Floats.{is_number}
 use Rattle.float.specs.Steps.{times32}
 use Rattle.float.proofs.Order.{and_both}
 use Rattle.transform.specs.declared.Transform.{Transform}
-use Rattle.alignment.specs.Template.{less, along, siteAt, siteOf, better_of, sweepBest}
+use Rattle.alignment.specs.Template.{less, along, site_at, site_of, better_of, sweep_best}
 use Rattle.alignment.specs.declared.template.Site.{Site}
 use Rattle.alignment.proofs.NumberLaws.{Number, finite, plus_number, squares_number}
 use Rattle.alignment.proofs.First.{FirstBest, Numbered, first-best}
@@ -54,40 +54,40 @@ steps m step = below m (λ i. finite (times32 (less i (m / 2)) step))
 
 -- a site at numbers
 pub record Placed (s : Site) : Type 0 where
-  pub x-number : Number s.x
-  pub y-number : Number s.y
-  pub dist-number : is_number s.dist ≡ true
+  pub x_number : Number s.x
+  pub y_number : Number s.y
+  pub dist_number : is_number s.dist ≡ true
 
 module _ (bits : List ℕ) (w h : ℕ) (t : Transform) (c : Float) where
   -- the sites of a sweep about the best so far, row by row
   pub sites : ℕ → Float → Site → List Site
-  sites m step best = listed (siteOf bits w h t c m step best.x best.y) (range 0 (m * m))
+  sites m step best = listed (site_of bits w h t c m step best.x best.y) (range 0 (m * m))
 
   module _ (m : ℕ) (step : Float) (best : Site) (some : 0 < m) (ok : steps m step ≡ true) (b : Placed best) where
-    along-number : (a : Float) → Number a → (i : ℕ) → i < m → Number (along m step a i)
+    along_number : (a : Float) → Number a → (i : ℕ) → i < m → Number (along m step a i)
     unfolding steps
-    along-number a n i l = plus_number binary32 a _ n (below_at m _ ok i l)
+    along_number a n i l = plus_number binary32 a _ n (below_at m _ ok i l)
 
-    site-placed : (k : ℕ) → k < m * m → Placed (siteOf bits w h t c m step best.x best.y k)
-    unfolding siteAt
-    site-placed k l =
-        let p = along-number best.x b.x-number (k % m) (mod-lt k some) in
-        let q = along-number best.y b.y-number (k / m) ((div-lt_iff_lt-mul some).1 l) in
-        record { x-number = p; y-number = q; dist-number = squares_number _ _ p q }
+    site_placed : (k : ℕ) → k < m * m → Placed (site_of bits w h t c m step best.x best.y k)
+    unfolding site_at
+    site_placed k l =
+        let p = along_number best.x b.x_number (k % m) (mod-lt k some) in
+        let q = along_number best.y b.y_number (k / m) ((div-lt_iff_lt-mul some).1 l) in
+        record { x_number = p; y_number = q; dist_number = squares_number _ _ p q }
 
     all_placed : Each Placed (best ∷ sites m step best)
     unfolding sites
-    all_placed = (b, each_listed Placed _ 0 (m * m - 0) (λ i l. site-placed i (omega arith)))
+    all_placed = (b, each_listed Placed _ 0 (m * m - 0) (λ i l. site_placed i (omega arith)))
 
     numbered : (l : List Site) → Each Placed l → Numbered l
     numbered [] e = tt
-    numbered (s ∷ l) e = (e.0.dist-number, numbered l e.1)
+    numbered (s ∷ l) e = (e.0.dist_number, numbered l e.1)
 
-    pub sweep-first : FirstBest (best ∷ sites m step best) (sweepBest bits w h t c m step best)
-    unfolding sweepBest sites
-    sweep-first = subst (FirstBest (best ∷ sites m step best)) (sym (folded_listed _ best (range 0 (m * m)))) (first-best best (sites m step best) (numbered (best ∷ sites m step best) all_placed))
+    pub sweep_first : FirstBest (best ∷ sites m step best) (sweep_best bits w h t c m step best)
+    unfolding sweep_best sites
+    sweep_first = subst (FirstBest (best ∷ sites m step best)) (sym (folded_listed _ best (range 0 (m * m)))) (first-best best (sites m step best) (numbered (best ∷ sites m step best) all_placed))
 
-    pub sweep-placed : Placed (sweepBest bits w h t c m step best)
-    sweep-placed =
-        let f = sweep-first in
-        (each_right Placed f.earlier (sweepBest bits w h t c m step best ∷ f.later) (subst (Each Placed) f.placed all_placed)).0
+    pub sweep_placed : Placed (sweep_best bits w h t c m step best)
+    sweep_placed =
+        let f = sweep_first in
+        (each_right Placed f.earlier (sweep_best bits w h t c m step best ∷ f.later) (subst (Each Placed) f.placed all_placed)).0

@@ -15,14 +15,14 @@ use Rattle.geometry.specs.Order.{point}
 use Rattle.transform.specs.declared.Point.{Point}
 use Rattle.transform.specs.declared.Transform.{Transform}
 use Rattle.alignment.specs.declared.template.Votes.{Votes}
-use Rattle.alignment.specs.Template.{outside_of, pixelAt, tapped, tapBy, no_votes, moduleDark}
+use Rattle.alignment.specs.Template.{outside_of, pixel_at, tapped, tap_by, no_votes, module_dark}
 use Rattle.alignment.specs.Counting.{Counted}
 
 pub bit_most : (d : Bool) → bit d ≤ 1
 bit_most d = omega (arith, bit_small d)
 
-pub pixel_most : (bits : List ℕ) (w h : ℕ) (p : Point) → pixelAt bits w h p ≤ 1
-unfolding pixelAt
+pub pixel_most : (bits : List ℕ) (w h : ℕ) (p : Point) → pixel_at bits w h p ≤ 1
+unfolding pixel_at
 pixel_most bits w h p = bit_most _
 
 pub counted : (v : Votes) (n : ℕ) → n ≤ 1 → Counted v (record { seen = v.seen + 1; dark = v.dark + n })
@@ -35,39 +35,39 @@ tap_counted : (bits : List ℕ) (w h : ℕ) (v : Votes) (p : Point) → Counted 
 unfolding tapped
 tap_counted bits w h v p = go (outside_of w p.x || outside_of h p.y)
   where
-    go : (o : Bool) → Counted v (cond o v (record { seen = v.seen + 1; dark = v.dark + pixelAt bits w h p }))
+    go : (o : Bool) → Counted v (cond o v (record { seen = v.seen + 1; dark = v.dark + pixel_at bits w h p }))
     go true = same_counted v
-    go false = counted v (pixelAt bits w h p) (pixel_most bits w h p)
+    go false = counted v (pixel_at bits w h p) (pixel_most bits w h p)
 
 module _ (v d e : Votes) (p : Counted v d) (q : Counted d e) (l : v.seen ≤ 3) (b : v.dark ≤ v.seen) where
-  dark-decides : v.dark ≡ 3 → ltb e.seen (e.dark * 2) ≡ true
-  dark-decides h = lt-ltb e.seen (e.dark * 2) (omega arith)
+  dark_decides : v.dark ≡ 3 → ltb e.seen (e.dark * 2) ≡ true
+  dark_decides h = lt-ltb e.seen (e.dark * 2) (omega arith)
 
-  light-decides : v.seen ≡ v.dark + 3 → ltb e.seen (e.dark * 2) ≡ false
-  light-decides h = le-ltb e.seen (e.dark * 2) (omega arith)
+  light_decides : v.seen ≡ v.dark + 3 → ltb e.seen (e.dark * 2) ≡ false
+  light_decides h = le-ltb e.seen (e.dark * 2) (omega arith)
 
 -- the module at (x, y), of whose taps the first three give the votes a, b and v
-module _ (bits : List ℕ) (w h : ℕ) (t : Transform) (x y : Float) (a b v : Votes) (p : a ≡ tapBy bits w h t x y no_votes (point f0 f0))
-    (q : b ≡ tapBy bits w h t x y a (point (neg quarter) f0)) (r : v ≡ tapBy bits w h t x y b (point quarter f0)) where
+module _ (bits : List ℕ) (w h : ℕ) (t : Transform) (x y : Float) (a b v : Votes) (p : a ≡ tap_by bits w h t x y no_votes (point f0 f0))
+    (q : b ≡ tap_by bits w h t x y a (point (neg quarter) f0)) (r : v ≡ tap_by bits w h t x y b (point quarter f0)) where
   fourth : Votes
-  fourth = tapBy bits w h t x y v (point f0 (neg quarter))
+  fourth = tap_by bits w h t x y v (point f0 (neg quarter))
 
   fifth : Votes
-  fifth = tapBy bits w h t x y fourth (point f0 quarter)
+  fifth = tap_by bits w h t x y fourth (point f0 quarter)
 
-  by-five : moduleDark bits w h t x y ≡ ltb fifth.seen (fifth.dark * 2)
-  unfolding moduleDark folded fourth fifth
-  by-five = rw (r, q, p)
+  by_five : module_dark bits w h t x y ≡ ltb fifth.seen (fifth.dark * 2)
+  unfolding module_dark folded fourth fifth
+  by_five = rw (r, q, p)
 
-  pub module-dark : v.seen ≤ 3 → v.dark ≤ v.seen → v.dark ≡ 3 → true ≡ moduleDark bits w h t x y
+  pub module_dark_lem : v.seen ≤ 3 → v.dark ≤ v.seen → v.dark ≡ 3 → true ≡ module_dark bits w h t x y
   unfolding fourth fifth
-  module-dark l m e = sym (by-five ∙ dark-decides v fourth fifth (tap_counted bits w h v _) (tap_counted bits w h fourth _) l m e)
+  module_dark_lem l m e = sym (by_five ∙ dark_decides v fourth fifth (tap_counted bits w h v _) (tap_counted bits w h fourth _) l m e)
 
-  pub module-light : v.seen ≤ 3 → v.dark ≤ v.seen → v.seen ≡ v.dark + 3 → false ≡ moduleDark bits w h t x y
+  pub module_light : v.seen ≤ 3 → v.dark ≤ v.seen → v.seen ≡ v.dark + 3 → false ≡ module_dark bits w h t x y
   unfolding fourth fifth
-  module-light l m e = sym (by-five ∙ light-decides v fourth fifth (tap_counted bits w h v _) (tap_counted bits w h fourth _) l m e)
+  module_light l m e = sym (by_five ∙ light_decides v fourth fifth (tap_counted bits w h v _) (tap_counted bits w h fourth _) l m e)
 
-  pub module-five : (d e : Votes) → d ≡ tapBy bits w h t x y v (point f0 (neg quarter)) → e ≡ tapBy bits w h t x y d (point f0 quarter)
-      → ltb e.seen (e.dark * 2) ≡ moduleDark bits w h t x y
-  unfolding moduleDark folded
-  module-five d e m n = rw (n, m, r, q, p)
+  pub module_five : (d e : Votes) → d ≡ tap_by bits w h t x y v (point f0 (neg quarter)) → e ≡ tap_by bits w h t x y d (point f0 quarter)
+      → ltb e.seen (e.dark * 2) ≡ module_dark bits w h t x y
+  unfolding module_dark folded
+  module_five d e m n = rw (n, m, r, q, p)

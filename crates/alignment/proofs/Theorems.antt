@@ -16,10 +16,10 @@ use Rattle.geometry.specs.Order.{point}
 use Rattle.geometry.specs.declared.Corners.{Corners}
 use Rattle.geometry.specs.declared.Marker.TheVariants.{Missing}
 use Rattle.alignment.specs.Alignment.{alignment_refusal, located_of, rebuilt_of, refine_of}
-use Rattle.alignment.specs.Template.{outside_of, pixelAt, tapped, less, no_site, sweepBest, bestOf, matched_of}
+use Rattle.alignment.specs.Template.{outside_of, pixel_at, tapped, less, no_site, sweep_best, best_of, matched_of}
 use Rattle.alignment.specs.declared.template.Votes.{Votes}
 use Rattle.alignment.proofs.First.{FirstBest}
-use Rattle.alignment.proofs.Sweeps.{below, steps, Placed, sites, sweep-first, sweep-placed}
+use Rattle.alignment.proofs.Sweeps.{below, steps, Placed, sites, sweep_first, sweep_placed}
 
 -- a not-a-number coordinate reads as coordinate 0
 inside-nan : (n : ℕ) → outside_of n nan ≡ false
@@ -27,18 +27,18 @@ unfolding outside_of lt
 inside-nan n = rw le-nan
 
 pub nan_tap : (bits : List ℕ) (w h : ℕ) (v : Votes) → tapped bits w h v (point nan nan) ≡ record { seen = v.seen + 1; dark = v.dark + bit (dark_at bits w h 0 0) }
-unfolding tapped outside_of pixelAt lt to_unsigned
+unfolding tapped outside_of pixel_at lt to_unsigned
 nan_tap bits w h v = rw (le-nan, le-nan)
 
 -- also where only x, or only y, is one
 pub nan_x : (bits : List ℕ) (w h : ℕ) (v : Votes) (y : Float)
     → tapped bits w h v (point nan y) ≡ cond (outside_of h y) v (record { seen = v.seen + 1; dark = v.dark + bit (dark_at bits w h 0 (to_unsigned 32 y)) })
-unfolding tapped outside_of pixelAt lt to_unsigned
+unfolding tapped outside_of pixel_at lt to_unsigned
 nan_x bits w h v y = rw le-nan
 
 pub nan_y : (bits : List ℕ) (w h : ℕ) (v : Votes) (x : Float)
     → tapped bits w h v (point x nan) ≡ cond (outside_of w x) v (record { seen = v.seen + 1; dark = v.dark + bit (dark_at bits w h (to_unsigned 32 x) 0) })
-unfolding tapped pixelAt to_unsigned
+unfolding tapped pixel_at to_unsigned
 nan_y bits w h v x = rw (inside-nan h) (go (outside_of w x))
   where
     go : (b : Bool)
@@ -78,17 +78,17 @@ third_steps = refl
 
 none-placed : Placed no_site
 unfolding of_bits of_fields is_number ne eq
-none-placed = record { x-number = tt; y-number = tt; dist-number = refl }
+none-placed = record { x_number = tt; y_number = tt; dist_number = refl }
 
-pub best_sites : (bits : List ℕ) (w h : ℕ) (t : Transform) (c : Float) → let a = sweepBest bits w h t c 13 half no_site in let b = sweepBest bits w h t c 9 f1/8 a in
-    FirstBest (no_site ∷ sites bits w h t c 13 half no_site) a × FirstBest (a ∷ sites bits w h t c 9 f1/8 a) b × FirstBest (b ∷ sites bits w h t c 9 f1/32 b) (bestOf bits w h t c)
-unfolding bestOf
+pub best_sites : (bits : List ℕ) (w h : ℕ) (t : Transform) (c : Float) → let a = sweep_best bits w h t c 13 half no_site in let b = sweep_best bits w h t c 9 f1/8 a in
+    FirstBest (no_site ∷ sites bits w h t c 13 half no_site) a × FirstBest (a ∷ sites bits w h t c 9 f1/8 a) b × FirstBest (b ∷ sites bits w h t c 9 f1/32 b) (best_of bits w h t c)
+unfolding best_of
 best_sites bits w h t c =
-    let a = sweepBest bits w h t c 13 half no_site in
-    let b = sweepBest bits w h t c 9 f1/8 a in
-    let p = sweep-placed bits w h t c 13 half no_site (omega arith) first_steps none-placed in
-    let q = sweep-placed bits w h t c 9 f1/8 a (omega arith) second_steps p in (
-      sweep-first bits w h t c 13 half no_site (omega arith) first_steps none-placed,
-      sweep-first bits w h t c 9 f1/8 a (omega arith) second_steps p,
-      sweep-first bits w h t c 9 f1/32 b (omega arith) third_steps q,
+    let a = sweep_best bits w h t c 13 half no_site in
+    let b = sweep_best bits w h t c 9 f1/8 a in
+    let p = sweep_placed bits w h t c 13 half no_site (omega arith) first_steps none-placed in
+    let q = sweep_placed bits w h t c 9 f1/8 a (omega arith) second_steps p in (
+      sweep_first bits w h t c 13 half no_site (omega arith) first_steps none-placed,
+      sweep_first bits w h t c 9 f1/8 a (omega arith) second_steps p,
+      sweep_first bits w h t c 9 f1/32 b (omega arith) third_steps q,
     )

@@ -5,7 +5,7 @@ use Rattle.float.specs.Constants.{f0, half}
 use Rattle.binary.specs.Binary.{bit}
 use Rattle.transform.specs.declared.Transform.{Transform}
 use Rattle.alignment.specs.declared.template.Site.{Site}
-use Rattle.alignment.specs.Template.{moduleDark, less, along}
+use Rattle.alignment.specs.Template.{module_dark, less, along}
 
 -- n / 2
 abbrev pub half_at : ℕ → Float
@@ -13,13 +13,13 @@ half_at n = times32 (whole32 n) half
 
 module _ (bits : List ℕ) (w h : ℕ) (t : Transform) where
   -- module k of 21 × 21, half a module apart, from n / 2 on: 1 for dark
-  unfoldable pub colourAt : ℕ → ℕ → ℕ
-  colourAt n k = bit (moduleDark bits w h t (half_at (n + k % 21)) (half_at (n + k / 21)))
+  unfoldable pub colour_at : ℕ → ℕ → ℕ
+  colour_at n k = bit (module_dark bits w h t (half_at (n + k % 21)) (half_at (n + k / 21)))
 
   -- a table that is not empty has, from place p on, the colours of the marker's modules about (x, y): the next column is two places on, the next row two rows
   unfoldable pub KnownAt : Float → Float → List ℕ → ℕ → Type 0
   KnownAt x y colours p = (i j : ℕ) → i < 5 → j < 5 → 0 < length colours
-      → (p + 2 * i + 42 * j < length colours) × (get_or colours (p + 2 * i + 42 * j) 0 ≡ bit (moduleDark bits w h t (plus32 x (less i 2)) (plus32 y (less j 2))))
+      → (p + 2 * i + 42 * j < length colours) × (get_or colours (p + 2 * i + 42 * j) 0 ≡ bit (module_dark bits w h t (plus32 x (less i 2)) (plus32 y (less j 2))))
 
   -- the same for every site of a sweep
   unfoldable pub Known : Float → ℕ → Float → Site → List ℕ → Type 0

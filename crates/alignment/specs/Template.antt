@@ -35,21 +35,21 @@ no_votes = record { seen = 0; dark = 0 }
 
 module _ (bits : List ℕ) (w h : ℕ) where
   -- the pixel at p, 1 for dark; a NaN's coordinate is 0
-  unfoldable pub pixelAt : Point → ℕ
-  pixelAt p = bit (dark_at bits w h (to_unsigned 32 p.x) (to_unsigned 32 p.y))
+  unfoldable pub pixel_at : Point → ℕ
+  pixel_at p = bit (dark_at bits w h (to_unsigned 32 p.x) (to_unsigned 32 p.y))
 
   -- one tap more, at p, which counts if it is in the picture
   unfoldable pub tapped : Votes → Point → Votes
-  tapped v p = cond (outside_of w p.x || outside_of h p.y) v (record { seen = v.seen + 1; dark = v.dark + pixelAt p })
+  tapped v p = cond (outside_of w p.x || outside_of h p.y) v (record { seen = v.seen + 1; dark = v.dark + pixel_at p })
 
   module _ (t : Transform) where
     -- the tap at an offset o from (x, y)
-    abbrev pub tapBy : Float → Float → Votes → Point → Votes
-    tapBy x y v o = tapped v (applied t (plus32 x o.x) (plus32 y o.y))
+    abbrev pub tap_by : Float → Float → Votes → Point → Votes
+    tap_by x y v o = tapped v (applied t (plus32 x o.x) (plus32 y o.y))
 
     -- more than half of the taps seen are dark
-    unfoldable pub moduleDark : Float → Float → Bool
-    moduleDark x y = let v = folded (tapBy x y) no_votes taps in ltb v.seen (v.dark * 2)
+    unfoldable pub module_dark : Float → Float → Bool
+    module_dark x y = let v = folded (tap_by x y) no_votes taps in ltb v.seen (v.dark * 2)
 
 -- ---- the marker: 5 × 5 modules, dark but for the ring about the middle one
 
@@ -67,15 +67,15 @@ module _ (bits : List ℕ) (w h : ℕ) (t : Transform) where
   agree x y k =
       let i = k % 5 in
       let j = k / 5 in
-      bit (beq (moduleDark bits w h t (plus32 x (less i 2)) (plus32 y (less j 2))) (want_dark i j))
+      bit (beq (module_dark bits w h t (plus32 x (less i 2)) (plus32 y (less j 2))) (want_dark i j))
 
   -- how many of the 25 modules have theirs
   unfoldable pub score_of : Float → Float → ℕ
   score_of x y = sum_to 25 (agree x y)
 
   -- the site at offset (x, y) from the predicted centre (c, c)
-  unfoldable pub siteAt : Float → Float → Float → Site
-  siteAt c x y = record { score = score_of (plus32 c x) (plus32 c y); dist = plus32 (times32 x x) (times32 y y); x = x; y = y }
+  unfoldable pub site_at : Float → Float → Float → Site
+  site_at c x y = record { score = score_of (plus32 c x) (plus32 c y); dist = plus32 (times32 x x) (times32 y y); x = x; y = y }
 
 -- ---- the best site
 
@@ -97,20 +97,20 @@ no_site = record { score = 0; dist = inf false; x = f0; y = f0 }
 
 module _ (bits : List ℕ) (w h : ℕ) (t : Transform) (c : Float) where
   -- site k of m × m sites about (x, y), in column k % m and row k / m
-  abbrev pub siteOf : ℕ → Float → Float → Float → ℕ → Site
-  siteOf m step x y k = siteAt bits w h t c (along m step x (k % m)) (along m step y (k / m))
+  abbrev pub site_of : ℕ → Float → Float → Float → ℕ → Site
+  site_of m step x y k = site_at bits w h t c (along m step x (k % m)) (along m step y (k / m))
 
   -- the better of the best so far and site k
   abbrev pub visited : ℕ → Float → Float → Float → Site → ℕ → Site
-  visited m step x y best k = better_of best (siteOf m step x y k)
+  visited m step x y best k = better_of best (site_of m step x y k)
 
   -- a sweep about the best site so far
-  unfoldable pub sweepBest : ℕ → Float → Site → Site
-  sweepBest m step best = folded (visited m step best.x best.y) best (range 0 (m * m))
+  unfoldable pub sweep_best : ℕ → Float → Site → Site
+  sweep_best m step best = folded (visited m step best.x best.y) best (range 0 (m * m))
 
   -- the three sweeps
-  unfoldable pub bestOf : Site
-  bestOf = sweepBest 9 f1/32 (sweepBest 9 f1/8 (sweepBest 13 half no_site))
+  unfoldable pub best_of : Site
+  best_of = sweep_best 9 f1/32 (sweep_best 9 f1/8 (sweep_best 13 half no_site))
 
 -- ---- the marker
 
@@ -122,5 +122,5 @@ centre_of version = minus32 (whole32 (side_of version)) f6_5
 unfoldable pub matched_of : List ℕ → ℕ → ℕ → Transform → ℕ → Marker
 matched_of bits w h t version =
     let c = centre_of version in
-    let s = bestOf bits w h t c in
+    let s = best_of bits w h t c in
     cond (ltb version 2 || ltb s.score 23) Missing (At (applied t (plus32 c s.x) (plus32 c s.y)))

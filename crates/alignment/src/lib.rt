@@ -1,4 +1,6 @@
 // The alignment marker: a template match through the transform, and a search along rows where that finds none.
+#![tactic(auto)]
+
 ghost use Rattle.std.specs.Prelude.{◌≡◌, ◌≤◌};
 ghost use Rattle.alignment.specs.Alignment.{alignment_refusal, match_of, searched_of, located_of, locate_of, is_found, rebuilt_of, refine_of};
 
@@ -14,7 +16,7 @@ mod matching;
 mod template;
 
 // A transform with the marker that it is built through, if there is one; or a refusal, and then zeros and none.
-#[derive(Drop)]
+#[derive(Clone, Copy)]
 pub struct Refined {
     pub refusal: u8,
     pub transform: Transform,

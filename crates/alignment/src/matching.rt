@@ -2,8 +2,8 @@
 ghost use Rattle.std.specs.Prelude.{◌≡◌, ◌≤◌, ◌<◌, length};
 ghost use Rattle.lists.specs.Lists.{tabulate};
 ghost use Rattle.float.specs.Constants.{half};
-ghost use Rattle.alignment.specs.Template.{no_site, sweepBest, bestOf, centre_of, matched_of};
-ghost use Rattle.alignment.specs.Known.{half_at, colourAt, raised_of, SameFrom};
+ghost use Rattle.alignment.specs.Template.{no_site, sweep_best, best_of, centre_of, matched_of};
+ghost use Rattle.alignment.specs.Known.{half_at, colour_at, raised_of, SameFrom};
 
 use super::template::{Site, bent_is_dark, plain_is_dark, sweep};
 use geometry::Marker;
@@ -27,7 +27,7 @@ pub fn centre(version: u8) -> f32
 // Module k of 21 × 21, half a module apart, from n / 2 on: 1 for dark.
 fn colour(bits: &[u8], width: u16, height: u16, t: Transform, n: u16, k: u16) -> u8
     requires { (n ≤ 4096) × (k < 441) }
-    ensures { result ≡ colourAt bits.now width height t n k }
+    ensures { result ≡ colour_at bits.now width height t n k }
 {
     let x = half_of(n + k % 21);
     let y = half_of(n + k / 21);
@@ -42,7 +42,7 @@ fn colour(bits: &[u8], width: u16, height: u16, t: Transform, n: u16, k: u16) ->
 // All of them.
 fn fill_colours(bits: &[u8], width: u16, height: u16, t: Transform, n: u16, colours: &mut [u8])
     requires { (n ≤ 4096) × (length colours.old ≡ 441) }
-    ensures { colours.new ≡ tabulate 441 (colourAt bits.now width height t n) }
+    ensures { colours.new ≡ tabulate 441 (colour_at bits.now width height t n) }
 {
     let mut k: u16 = 0;
     while k < 441 {
@@ -53,7 +53,7 @@ fn fill_colours(bits: &[u8], width: u16, height: u16, t: Transform, n: u16, colo
 
 // The first sweep. Its 169 sites have 25 modules each, but only 441 different ones.
 fn first_sweep(bits: &[u8], width: u16, height: u16, t: Transform, version: u8) -> Site
-    ensures { result ≡ sweepBest bits.now width height t (centre_of version) 13 half no_site }
+    ensures { result ≡ sweep_best bits.now width height t (centre_of version) 13 half no_site }
 {
     let mut colours = [0u8; 441];
     fill_colours(
@@ -100,7 +100,7 @@ fn raised(best: Site) -> Site
 
 // The three sweeps.
 fn best_site(bits: &[u8], width: u16, height: u16, t: Transform, version: u8) -> Site
-    ensures { SameFrom 23 result (bestOf bits.now width height t (centre_of version)) }
+    ensures { SameFrom 23 result (best_of bits.now width height t (centre_of version)) }
 {
     let c = centre(version);
     let none = &bits[..0];

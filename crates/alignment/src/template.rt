@@ -4,7 +4,7 @@ ghost use Rattle.lists.specs.Lists.{dist};
 ghost use Rattle.float.specs.Steps.{plus32};
 ghost use Rattle.transform.specs.Apply.{applied};
 ghost use Rattle.transform.specs.Fit.{plain};
-ghost use Rattle.alignment.specs.Template.{outside_of, pixelAt, tapped, moduleDark, want_dark, less, agree, score_of, siteAt, better_of, sweepBest};
+ghost use Rattle.alignment.specs.Template.{outside_of, pixel_at, tapped, module_dark, want_dark, less, agree, score_of, site_at, better_of, sweep_best};
 ghost use Rattle.alignment.specs.Counting.{Counted, UpTo, least_of};
 ghost use Rattle.alignment.specs.Known.{KnownAt, Known};
 
@@ -13,14 +13,14 @@ use float::to_u32;
 use transform::{Point, Transform};
 
 // How many taps of a module lie in the picture, and how many of these are dark.
-#[derive(Drop)]
+#[derive(Clone, Copy)]
 pub struct Votes {
     pub seen: u8,
     pub dark: u8,
 }
 
 // A site: how many modules agree there, its squared offset from the predicted centre, and its offset in modules.
-#[derive(Drop)]
+#[derive(Clone, Copy)]
 pub struct Site {
     pub score: u8,
     pub dist: f32,
@@ -37,7 +37,7 @@ fn outside(x: f32, n: u16) -> bool
 
 // The pixel at p, 1 for dark.
 fn pixel_at(bits: &[u8], width: u16, height: u16, p: Point) -> u8
-    ensures value { result ≡ pixelAt bits.now width height p }
+    ensures value { result ≡ pixel_at bits.now width height p }
     ensures upper_bound { result ≤ 1 }
 {
     if dark(bits, width as u32, height as u32, to_u32(p.x), to_u32(p.y)) {
@@ -86,7 +86,7 @@ fn bent_tap(bits: &[u8], width: u16, height: u16, t: Transform, x: f32, y: f32, 
 // Whether most of the five taps that lie in the picture are dark, without a lens: the way of every detection, so it is the fast one. Where the first three
 // agree, they decide.
 pub fn plain_is_dark(bits: &[u8], width: u16, height: u16, t: Transform, x: f32, y: f32) -> bool
-    ensures { result ≡ moduleDark bits.now width height (plain t.m) x y }
+    ensures { result ≡ module_dark bits.now width height (plain t.m) x y }
 {
     let none = Votes { seen: 0, dark: 0 };
     let a = plain_tap(bits, width, height, t, x + 0.0, y + 0.0, none);
@@ -105,7 +105,7 @@ pub fn plain_is_dark(bits: &[u8], width: u16, height: u16, t: Transform, x: f32,
 
 // The same through the lens, if there is one: all five are asked.
 pub fn bent_is_dark(bits: &[u8], width: u16, height: u16, t: Transform, x: f32, y: f32) -> bool
-    ensures { result ≡ moduleDark bits.now width height t x y }
+    ensures { result ≡ module_dark bits.now width height t x y }
 {
     let none = Votes { seen: 0, dark: 0 };
     let a = bent_tap(bits, width, height, t, x + 0.0, y + 0.0, none);
@@ -158,7 +158,7 @@ fn sees_dark(
     at: u16,
 ) -> bool
     requires { (i < 5) × (j < 5) × KnownAt bits.now width height t x y colours.now at }
-    ensures { result ≡ moduleDark bits.now width height t (plus32 x (less i 2)) (plus32 y (less j 2)) }
+    ensures { result ≡ module_dark bits.now width height t (plus32 x (less i 2)) (plus32 y (less j 2)) }
 {
     if colours.len() != 0 {
         return colours[at as usize + 2 * i as usize + 42 * j as usize] == 1;
@@ -245,7 +245,7 @@ fn visit(
     at: u16,
 ) -> Site
     requires { KnownAt bits.now width height t (plus32 c x) (plus32 c y) colours.now at }
-    ensures { result ≡ better_of best (siteAt bits.now width height t c x y) }
+    ensures { result ≡ better_of best (site_at bits.now width height t c x y) }
 {
     let dist = x * x + y * y;
     let least = needed(best, dist);
@@ -269,7 +269,7 @@ pub fn sweep(
     colours: &[u8],
 ) -> Site
     requires { (0 < m) × (m ≤ 13) × Known bits.now width height t c m step best colours.now }
-    ensures { result ≡ sweepBest bits.now width height t c m step best }
+    ensures { result ≡ sweep_best bits.now width height t c m step best }
 {
     let x = best.x;
     let y = best.y;

@@ -9,7 +9,7 @@ use native.Mathlib.Omega.{arith}
 use lib.ListN.{length, set}
 use lib.Dec.{ltb}
 use lib.Pow.{high, low, pow_mono}
-use Rattle.lists.proofs.Tabulate.{filled-step}
+use Rattle.lists.proofs.Tabulate.{filled_step}
 use Rattle.binary.specs.Binary.{bit, word, byte_of}
 use Rattle.binary.specs.Writing.{Written}
 use Rattle.binary.proofs.Bits.{word_bound, word_low}
@@ -38,12 +38,12 @@ module _ (p : ℕ → Bool) (n acc b : ℕ) (r : acc ≡ word p (n / 8 * 8) (n %
       let here : word p (n / 8 * 8) (n % 8 + 8) ≡ acc * 256 + b = word-append p (n / 8 * 8) (n % 8) 8 ∙ rw (at, r, q) in
       sym here ∙ ap (word p (n / 8 * 8)) (add_comm (n % 8) 8) ∙ word-append p (n / 8 * 8) 8 (n % 8)
 
-  byte-of-eight : byte_of_eight n acc b ≡ byte_of p (n / 8)
-  byte-of-eight =
+  byte_of_eight_lem : byte_of_eight n acc b ≡ byte_of p (n / 8)
+  byte_of_eight_lem =
       rw (both, high (byte_of p (n / 8)) (n % 8) (word_bound p (n / 8 * 8 + 8) (n % 8))) (mod-eq_of_lt (word_bound p (n / 8 * 8) 8))
 
-  rest-of-eight : rest_of_eight n acc b ≡ word p (n / 8 * 8 + 8) (n % 8)
-  rest-of-eight = rw both (low (byte_of p (n / 8)) (n % 8) (word_bound p (n / 8 * 8 + 8) (n % 8)))
+  rest_of_eight_lem : rest_of_eight n acc b ≡ word p (n / 8 * 8 + 8) (n % 8)
+  rest_of_eight_lem = rw both (low (byte_of p (n / 8)) (n % 8) (word_bound p (n / 8 * 8 + 8) (n % 8)))
 
 -- eight pixels more
 pub written-eight : (p : ℕ → Bool) (n : ℕ) (old l l' : List ℕ) (acc acc' b : ℕ) → n / 8 < length old → acc' ≡ rest_of_eight n acc b → l' ≡ set l (n / 8) (byte_of_eight n acc b)
@@ -53,8 +53,8 @@ written-eight p n old l l' acc acc' b room r s q w =
     let same : (n + 8) % 8 ≡ n % 8 = omega arith in
     let next : (n / 8 + 1) * 8 ≡ n / 8 * 8 + 8 = omega arith in
     record {
-      bytes = s ∙ rw up (filled-step (n / 8) (byte_of p) old l _ room w.bytes (byte-of-eight p n acc b w.rest q));
-      rest = r ∙ rw (up, same, next) (rest-of-eight p n acc b w.rest q);
+      bytes = s ∙ rw up (filled_step (n / 8) (byte_of p) old l _ room w.bytes (byte_of_eight_lem p n acc b w.rest q));
+      rest = r ∙ rw (up, same, next) (rest_of_eight_lem p n acc b w.rest q);
     }
 
 -- eight pixels of a row, from column 8 j on, have the level of block j

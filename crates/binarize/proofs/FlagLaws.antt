@@ -10,11 +10,11 @@ use lib.Seq.{get_or-append-add, get_or-drop}
 use lib.Dec.{eqb, ltb}
 use borrow.Author.Tests.{ltb-true, ltb-false}
 use Rattle.lists.specs.Lists.{tabulate, filled}
-use Rattle.lists.proofs.Tabulate.{length-tabulate, length-filled, getD-filled}
+use Rattle.lists.proofs.Tabulate.{length-tabulate, length-filled, get_or-filled}
 use Rattle.lists.proofs.Filters.{those-none}
 use Rattle.blocks.specs.Blocks.{at, cells, about}
 use Rattle.blocks.proofs.Grids.{each_cells}
-use Rattle.binarize.specs.Levels.{marked, window, windowLevel}
+use Rattle.binarize.specs.Levels.{marked, window, window_level}
 use Rattle.binarize.specs.Flags.{flagged, Flagged}
 
 -- what is not filled yet
@@ -48,18 +48,18 @@ flagged-zero m f h = go (eqb m 1) h
 row_zero : (marks : ℕ → ℕ) (from w : ℕ) (old new : List ℕ) → new ≡ filled w (λ x. flagged (marks (from + x)) (at old x)) old → (x : ℕ) → x < w → at new x ≡ 0
     → (marked marks (from + x) ≡ false) × (at old x ≡ 0)
 row_zero marks from w old new q x l z =
-    flagged-zero _ _ (sym (ap (λ (m : List ℕ). at m x) q ∙ getD-filled w (λ k. flagged (marks (from + k)) (at old k)) old x 0 l) ∙ z)
+    flagged-zero _ _ (sym (ap (λ (m : List ℕ). at m x) q ∙ get_or-filled w (λ k. flagged (marks (from + k)) (at old k)) old x 0 l) ∙ z)
 
 module _ (edge near : ℕ → ℕ) (w c : ℕ) where
-  pub flags-none : (flags : List ℕ) → Flagged edge near w c c flags
+  pub flags_none : (flags : List ℕ) → Flagged edge near w c c flags
   unfolding Flagged
-  flags-none flags = λ x l z y p q. absurd (omega arith)
+  flags_none flags = λ x l z y p q. absurd (omega arith)
 
   -- one row more
-  pub flags-more : (y : ℕ) (old mid new : List ℕ) → Flagged edge near w c y old → mid ≡ filled w (λ x. flagged (edge (y * w + x)) (at old x)) old
+  pub flags_more : (y : ℕ) (old mid new : List ℕ) → Flagged edge near w c y old → mid ≡ filled w (λ x. flagged (edge (y * w + x)) (at old x)) old
       → new ≡ filled w (λ x. flagged (near (y * w + x)) (at mid x)) mid → Flagged edge near w c (y + 1) new
   unfolding Flagged
-  flags-more y old mid new f p q = λ x l z j a b.
+  flags_more y old mid new f p q = λ x l z j a b.
       let n = row_zero near (y * w) w mid new q x l z in
       let e = row_zero edge (y * w) w old mid p x l n.1 in
       go x j e.0 n.0 (ltb j y) refl (f x l e.1 j a) b
@@ -87,6 +87,6 @@ module _ (means edge near : ℕ → ℕ) (bw bh x y other : ℕ)
       (each_cells (λ i. marked near i ≡ false) bw (x - r) (min bw (x + r + 1)) (y - r) (min bh (y + r + 1))
       (λ i j a b p q. (none i j (omega arith) (omega arith) (omega arith) (omega arith)).1)))
 
-  pub level-none-about : other ≡ windowLevel means edge near bw bh x y other
-  unfolding windowLevel
+  pub level-none-about : other ≡ window_level means edge near bw bh x y other
+  unfolding window_level
   level-none-about = rw (no_edge 2 (omega arith), no_edge 4 (omega arith), no_near 2 (omega arith), no_near 4 (omega arith))

@@ -12,13 +12,13 @@ use lib.Dec.{eqb, ltb}
 use borrow.Author.Tests.{eq-eqb, ne_eqb, lt-ltb}
 use Rattle.lists.specs.Lists.{count, range, flat_map, how_many}
 use Rattle.lists.proofs.Numbers.{mul_bound}
-use Rattle.lists.proofs.Filters.{howMany-append}
+use Rattle.lists.proofs.Filters.{how_many-append}
 use Rattle.lists.proofs.Folds.{range_more}
 use Rattle.blocks.specs.Blocks.{mean, at, cells, about}
 use Rattle.binarize.specs.declared.levels.Split.{Split}
 use Rattle.binarize.specs.declared.levels.Level.{Level}
 use Rattle.binarize.specs.declared.levels.Level.TheVariants.{At, Nothing}
-use Rattle.binarize.specs.Levels.{midway, level, first_level, marked, marked_means, any_marked, chosen, globalLevel, window, windowLevel}
+use Rattle.binarize.specs.Levels.{midway, level, first_level, marked, marked_means, any_marked, chosen, global_level, window, window_level}
 use Rattle.binarize.specs.Splits.{level_of, or_else, Tallied, InGrid, Grid}
 
 -- ---- the level of a list of means
@@ -81,18 +81,18 @@ either false e n k g h = h
 module _ (mark : ℕ → ℕ) where
   many_more : (n : ℕ) → how_many (marked mark) (range 0 (suc n)) ≡ how_many (marked mark) (range 0 n) + cond (eqb (mark n) 1) 1 0
   unfolding how_many
-  many_more n = ap (how_many (marked mark)) (range_more 0 n (omega arith)) ∙ howMany-append (marked mark) (range 0 n) (n ∷ [])
+  many_more n = ap (how_many (marked mark)) (range_more 0 n (omega arith)) ∙ how_many-append (marked mark) (range 0 n) (n ∷ [])
 
-  some-marked : (n i : ℕ) → i < n → mark i ≡ 1 → 0 < how_many (marked mark) (range 0 n)
-  some-marked zero i h e = absurd (omega arith)
-  some-marked (suc n) i h e = rw many_more (go (some-marked n i) (eq-or-lt_of_le (le_of_suc-le-suc h)))
+  some_marked : (n i : ℕ) → i < n → mark i ≡ 1 → 0 < how_many (marked mark) (range 0 n)
+  some_marked zero i h e = absurd (omega arith)
+  some_marked (suc n) i h e = rw many_more (go (some_marked n i) (eq-or-lt_of_le (le_of_suc-le-suc h)))
     where
       go : (i < n → mark i ≡ 1 → 0 < how_many (marked mark) (range 0 n)) → (i ≡ n) ⊎ (i < n) → 0 < how_many (marked mark) (range 0 n) + cond (eqb (mark n) 1) 1 0
       go ih (inl q) = let f = ap mark (sym q) ∙ e in simp (eq-eqb (mark n) 1 f) (omega arith)
       go ih (inr q) = omega (arith, ih q e)
 
   pub any_found : (n i : ℕ) → i < n → mark i ≡ 1 → true ≡ any_marked mark n
-  any_found n i h e = sym (lt-ltb 0 (how_many (marked mark) (range 0 n)) (some-marked n i h e))
+  any_found n i h e = sym (lt-ltb 0 (how_many (marked mark) (range 0 n)) (some_marked n i h e))
 
   -- none so far, and none here
   pub none_more : (i : ℕ) → how_many (marked mark) (range 0 i) ≡ 0 → (mark i ≡ 1 → ⊥) → how_many (marked mark) (range 0 (i + 1)) ≡ 0
@@ -105,8 +105,8 @@ at-cond true e n = refl
 at-cond false e n = refl
 
 pub global_is : (means edges nears marks : List ℕ) (bw bh : ℕ) (r : Level) → marks ≡ cond (any_marked (at edges) (bh * bw)) edges nears
-    → r ≡ level_of (marked_means (at means) (at marks) (cells (bh * bw) (range 0 (bh * bw)) (range 0 1))) → or_else r 0 ≡ globalLevel (at means) (at edges) (at nears) bw bh
-unfolding globalLevel
+    → r ≡ level_of (marked_means (at means) (at marks) (cells (bh * bw) (range 0 (bh * bw)) (range 0 1))) → or_else r 0 ≡ global_level (at means) (at edges) (at nears) bw bh
+unfolding global_level
 global_is means edges nears marks bw bh r e q =
     let n = bh * bw in
     let all : level_of (marked_means (at means) (at marks) (cells n (range 0 n) (range 0 1))) ≡ level_of (marked_means (at means) (chosen (at edges) (at nears) n) (range 0 n)) =
@@ -117,21 +117,21 @@ global_is means edges nears marks bw bh r e q =
 -- ---- the windows of a block in their order: kinds 0 to 3
 
 module _ (means edges nears : List ℕ) (bw bh x y global : ℕ) where
-  abbrev pub kindLevel : ℕ → Level
-  kindLevel k = level_of (marked_means (at means) (at (cond (ltb k 2) edges nears)) (cells bw (about bw x (2 + k % 2 * 2)) (about bh y (2 + k % 2 * 2))))
+  abbrev pub kind_level : ℕ → Level
+  kind_level k = level_of (marked_means (at means) (at (cond (ltb k 2) edges nears)) (cells bw (about bw x (2 + k % 2 * 2)) (about bh y (2 + k % 2 * 2))))
 
   -- the last n kinds
   rest : ℕ → ℕ
   rest zero = global
-  rest (suc n) = or_else (kindLevel (3 - n)) (rest n)
+  rest (suc n) = or_else (kind_level (3 - n)) (rest n)
 
   -- those from kind k on
   pub from : ℕ → ℕ
   unfolding rest
   from k = rest (4 - k)
 
-  pub from_first : windowLevel (at means) (at edges) (at nears) bw bh x y global ≡ from 0
-  unfolding from windowLevel
+  pub from_first : window_level (at means) (at edges) (at nears) bw bh x y global ≡ from 0
+  unfolding from window_level
   from_first =
       first_of_four (window (at means) (at edges) (at nears) bw bh (at edges) x y 2) (window (at means) (at edges) (at nears) bw bh (at edges) x y 4)
       (window (at means) (at edges) (at nears) bw bh (at nears) x y 2) (window (at means) (at edges) (at nears) bw bh (at nears) x y 4) global
@@ -140,15 +140,15 @@ module _ (means edges nears : List ℕ) (bw bh x y global : ℕ) where
   unfolding from
   from_last k e = rw e
 
-  next : (k : ℕ) → k < 4 → from k ≡ or_else (kindLevel k) (from (k + 1))
+  next : (k : ℕ) → k < 4 → from k ≡ or_else (kind_level k) (from (k + 1))
   unfolding from
   next k h =
       let e : 4 - k ≡ suc (4 - (k + 1)) = omega arith in
       let q : 3 - (4 - (k + 1)) ≡ k = omega arith in
       rw (e, q)
 
-  pub from_found : (k v : ℕ) → k < 4 → kindLevel k ≡ At v → from k ≡ v
+  pub from_found : (k v : ℕ) → k < 4 → kind_level k ≡ At v → from k ≡ v
   from_found k v h e = next k h ∙ ap (λ (l : Level). or_else l (from (k + 1))) e
 
-  pub from-missed : (k : ℕ) → k < 4 → kindLevel k ≡ Nothing → from k ≡ from (k + 1)
-  from-missed k h e = next k h ∙ ap (λ (l : Level). or_else l (from (k + 1))) e
+  pub from_missed : (k : ℕ) → k < 4 → kind_level k ≡ Nothing → from k ≡ from (k + 1)
+  from_missed k h e = next k h ∙ ap (λ (l : Level). or_else l (from (k + 1))) e

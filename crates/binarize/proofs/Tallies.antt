@@ -65,10 +65,10 @@ tallied_more l m v t h = go (leb v m) refl
 
 -- the blocks of a list, one after the other
 module _ (means mark : ℕ → ℕ) (m : ℕ) where
-  tallied-from : (is l : List ℕ) (t : Split) → Tallied l m t → Tallied (l ++ marked_means means mark is) m (folded (block_step means mark m) t is)
+  tallied_from : (is l : List ℕ) (t : Split) → Tallied l m t → Tallied (l ++ marked_means means mark is) m (folded (block_step means mark m) t is)
   unfolding those folded block_step with_block
-  tallied-from [] l t h = rw append-nil h
-  tallied-from (i ∷ is) l t h = go (eqb (mark i) 1) (tallied-from is)
+  tallied_from [] l t h = rw append-nil h
+  tallied_from (i ∷ is) l t h = go (eqb (mark i) 1) (tallied_from is)
     where
       go : (b : Bool) → ((k : List ℕ) (s : Split) → Tallied k m s → Tallied (k ++ marked_means means mark is) m (folded (block_step means mark m) s is))
           → Tallied (l ++ map means (cond b (i ∷ those (marked mark) is) (those (marked mark) is))) m (folded (block_step means mark m) (cond b (with_mean m t (means i)) t) is)
@@ -81,4 +81,4 @@ module _ (means mark : ℕ → ℕ) (m : ℕ) where
   unfolding those folded
   tallied is t e =
       subst (Tallied (marked_means means mark is) m) (sym e)
-      (tallied-from is [] no_block (record { low = refl; lows = refl; high = refl; highs = refl; total = refl; count = refl }))
+      (tallied_from is [] no_block (record { low = refl; lows = refl; high = refl; highs = refl; total = refl; count = refl }))

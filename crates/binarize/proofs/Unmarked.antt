@@ -11,7 +11,7 @@ use Rattle.lists.proofs.Numbers.{row_within}
 use Rattle.lists.proofs.Filters.{those-none}
 use Rattle.lists.proofs.Folds.{each_range}
 use Rattle.blocks.specs.Blocks.{at, blocks_on}
-use Rattle.binarize.specs.Levels.{first_level, marked, any_marked, chosen, globalLevel, levelAt}
+use Rattle.binarize.specs.Levels.{first_level, marked, any_marked, chosen, global_level, level_at}
 use Rattle.binarize.specs.Binarize.{dark_by}
 use Rattle.binarize.proofs.FlagLaws.{level-none-about}
 
@@ -26,21 +26,21 @@ module _ (means edge near : ℕ → ℕ) (bw bh : ℕ) (no_edge : (i : ℕ) → 
       go true = no_edge i l
       go false = no_near i l
 
-  global-zero : globalLevel means edge near bw bh ≡ 0
-  unfolding globalLevel
-  global-zero =
+  global_zero : global_level means edge near bw bh ≡ 0
+  unfolding global_level
+  global_zero =
       let mark = chosen edge near (bh * bw) in
       ap (λ (is : List ℕ). first_level (map means is ∷ []) 0)
       (those-none (marked mark) (range 0 (bh * bw)) (each_range (λ i. marked mark i ≡ false) 0 (bh * bw) (λ i _ l. none-marked mark i (none-chosen i l))))
 
-  level-zero : (x y : ℕ) → levelAt means edge near bw bh x y ≡ 0
+  level-zero : (x y : ℕ) → level_at means edge near bw bh x y ≡ 0
   level-zero x y =
       sym
-      (level-none-about means edge near bw bh x y (globalLevel means edge near bw bh)
+      (level-none-about means edge near bw bh x y (global_level means edge near bw bh)
       (λ i j _ b _ d.
       let l : j * bw + i < bh * bw = omega (arith, row_within j bh bw (omega arith)) in
       (none-marked edge (j * bw + i) (no_edge (j * bw + i) l), none-marked near (j * bw + i) (no_near (j * bw + i) l))))
-      ∙ global-zero
+      ∙ global_zero
 
 pub none_dark : (means edge near : ℕ → ℕ) (g : List ℕ) (w h : ℕ) → ((i : ℕ) → i < blocks_on h * blocks_on w → edge i ≡ 0)
     → ((i : ℕ) → i < blocks_on h * blocks_on w → near i ≡ 0) → (i : ℕ) → dark_by means edge near g w h i ≡ false

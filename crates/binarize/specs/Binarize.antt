@@ -6,16 +6,16 @@ use Rattle.lists.specs.Lists.{filled}
 use Rattle.lcr_core.specs.Outcome.{first_of, unless, zero_side, large_side}
 use Rattle.lcr_core.specs.declared.Outcome.TheVariants.{ZeroSide, LargeSide, ShortPicture, ShortOutput}
 use Rattle.binary.specs.Binary.{byte_of, bytes_of}
-use Rattle.blocks.specs.Blocks.{at, blocks_on, blocks_in, meanAt, edge_at, nearAt, under}
-use Rattle.binarize.specs.Levels.{levelAt}
+use Rattle.blocks.specs.Blocks.{at, blocks_on, blocks_in, mean_at, edge_at, near_at, under}
+use Rattle.binarize.specs.Levels.{level_at}
 
 -- whether pixel number k is dark, from the means and marks of the blocks: its gray value is below its block's level
 unfoldable pub dark_by : (ℕ → ℕ) → (ℕ → ℕ) → (ℕ → ℕ) → List ℕ → ℕ → ℕ → ℕ → Bool
-dark_by means edge near g w h k = ltb k (w * h) && ltb (at g k) (levelAt means edge near (blocks_on w) (blocks_on h) (k % w / 8) (k / w / 8))
+dark_by means edge near g w h k = ltb k (w * h) && ltb (at g k) (level_at means edge near (blocks_on w) (blocks_on h) (k % w / 8) (k / w / 8))
 
 -- the same, from the gray picture g of w × h pixels
 abbrev pub is_dark : List ℕ → ℕ → ℕ → ℕ → Bool
-is_dark g w h = dark_by (meanAt g w h) (edge_at g w h) (nearAt g w h) g w h
+is_dark g w h = dark_by (mean_at g w h) (edge_at g w h) (near_at g w h) g w h
 
 -- what is refused of len gray bytes, with room bytes for the bits, and work slices of these lengths
 unfoldable pub binarize_refusal : ℕ → ℕ → ℕ → ℕ → List ℕ → ℕ

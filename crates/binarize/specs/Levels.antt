@@ -37,17 +37,17 @@ chosen edge near n = cond (any_marked edge n) edge near
 -- a picture of bw × bh blocks, with the mean, the edge mark and the near mark of each
 module _ (means edge near : ℕ → ℕ) (bw bh : ℕ) where
   -- the global level, over all blocks
-  unfoldable pub globalLevel : ℕ
-  globalLevel = first_level (marked_means means (chosen edge near (bh * bw)) (range 0 (bh * bw)) ∷ []) 0
+  unfoldable pub global_level : ℕ
+  global_level = first_level (marked_means means (chosen edge near (bh * bw)) (range 0 (bh * bw)) ∷ []) 0
 
   -- the marked blocks' means in the window of radius r about the block in column x and row y
   abbrev pub window : (ℕ → ℕ) → ℕ → ℕ → ℕ → List ℕ
   window mark x y r = marked_means means mark (cells bw (about bw x r) (about bh y r))
 
   -- the level of that block: the first of four windows that holds a marked block gives it, otherwise another applies
-  unfoldable pub windowLevel : ℕ → ℕ → ℕ → ℕ
-  windowLevel x y other = first_level (window edge x y 2 ∷ window edge x y 4 ∷ window near x y 2 ∷ window near x y 4 ∷ []) other
+  unfoldable pub window_level : ℕ → ℕ → ℕ → ℕ
+  window_level x y other = first_level (window edge x y 2 ∷ window edge x y 4 ∷ window near x y 2 ∷ window near x y 4 ∷ []) other
 
   -- which is the global level
-  abbrev pub levelAt : ℕ → ℕ → ℕ
-  levelAt x y = windowLevel x y globalLevel
+  abbrev pub level_at : ℕ → ℕ → ℕ
+  level_at x y = window_level x y global_level

@@ -2,7 +2,7 @@
 ghost use Rattle.std.specs.Prelude.{◌≡◌, true, ℕ, ◌+◌, ◌-◌, ◌*◌, ◌≤◌, ◌<◌, min, length};
 ghost use Rattle.lists.specs.Lists.{filled};
 ghost use Rattle.blocks.specs.Blocks.{at};
-ghost use Rattle.binarize.specs.Levels.{windowLevel};
+ghost use Rattle.binarize.specs.Levels.{window_level};
 ghost use Rattle.binarize.specs.Splits.{Grid};
 ghost use Rattle.binarize.specs.Flags.{flagged, Flagged};
 
@@ -69,7 +69,7 @@ pub fn level_by<'a>(
 ) -> u8
     requires { Grid (length means.now) bw bh x y × Grid (length edges.now) bw bh x y × Grid (length nears.now) bw bh x y
         × (bw ≤ length flags.now) × Flagged (at edges.now) (at nears.now) bw (y - 4) (min bh (y + 4 + 1)) flags.now }
-    ensures { result ≡ windowLevel (at means.now) (at edges.now) (at nears.now) bw bh x y global }
+    ensures { result ≡ window_level (at means.now) (at edges.now) (at nears.now) bw bh x y global }
 {
     if none_flagged(flags, begins(x, 4), ends(bw, x, 4)) {
         return global;

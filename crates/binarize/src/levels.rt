@@ -3,18 +3,18 @@ ghost use Rattle.std.specs.Prelude.{◌≡◌, cond, ◌||◌, ℕ, ◌+◌, ◌
 ghost use Rattle.lists.specs.Lists.{range, folded};
 ghost use Rattle.binary.specs.Binary.{bit};
 ghost use Rattle.blocks.specs.Blocks.{at, cells, about};
-ghost use Rattle.binarize.specs.Levels.{marked_means, any_marked, windowLevel, globalLevel};
+ghost use Rattle.binarize.specs.Levels.{marked_means, any_marked, window_level, global_level};
 ghost use Rattle.binarize.specs.Splits.{level_of, with_block, block_step, column_step, no_block, Bounded, InGrid, Grid};
 
 // The level of a window, where it holds a marked block.
-#[derive(Drop)]
+#[derive(Clone, Copy)]
 pub enum Level {
     At(u8),
     Nothing,
 }
 
 // The marked means of a window in two groups, those up to a bound and those above: the sum and the number of each.
-#[derive(Drop)]
+#[derive(Clone, Copy)]
 pub struct Split {
     pub low: u32,
     pub lows: u32,
@@ -197,7 +197,7 @@ pub fn block_level<'a>(
     global: u8,
 ) -> u8
     requires { Grid (length means.now) bw bh x y × Grid (length edges.now) bw bh x y × Grid (length nears.now) bw bh x y }
-    ensures { result ≡ windowLevel (at means.now) (at edges.now) (at nears.now) bw bh x y global }
+    ensures { result ≡ window_level (at means.now) (at edges.now) (at nears.now) bw bh x y global }
 {
     let mut kind = 0;
     let v = loop {
@@ -240,7 +240,7 @@ fn chosen<'a>(edges: &'a [u8], nears: &'a [u8], n: usize) -> &'a [u8]
 // The level over all blocks of the picture, 0 where none is marked.
 pub fn global_level<'a>(means: &[u8], edges: &'a [u8], nears: &'a [u8], bw: usize, bh: usize) -> u8
     requires { (bw ≤ 512) × (bh ≤ 512) × (bh * bw ≤ length means.now) × (bh * bw ≤ length edges.now) × (bh * bw ≤ length nears.now) }
-    ensures { result ≡ globalLevel (at means.now) (at edges.now) (at nears.now) bw bh }
+    ensures { result ≡ global_level (at means.now) (at edges.now) (at nears.now) bw bh }
 {
     let n = bh * bw;
     let marks = chosen(edges, nears, n);

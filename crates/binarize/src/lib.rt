@@ -1,7 +1,9 @@
 // Black and white conversion.
+#![tactic(auto)]
+
 ghost use Rattle.std.specs.Prelude.{◌≡◌, ◌∷◌, [], length};
 ghost use Rattle.lcr_core.specs.Outcome.{number_of};
-ghost use Rattle.blocks.specs.Blocks.{meanAt, leastAt, greatestAt, edge_at, nearAt, blocks_after};
+ghost use Rattle.blocks.specs.Blocks.{mean_at, least_at, greatest_at, edge_at, near_at, blocks_after};
 ghost use Rattle.binarize.specs.Binarize.{binarize_refusal, dark_after};
 ghost use Rattle.binarize.specs.Splits.{Passed};
 
@@ -51,11 +53,11 @@ fn binarize_checked(
 )
     requires { Passed (length gray.now) width height (length bits.old) (length means.old
         ∷ length least.old ∷ length greatest.old ∷ length edges.old ∷ length nears.old ∷ []) }
-    ensures means_after { means.new ≡ blocks_after 0 width height (meanAt gray.now width height) means.old }
-    ensures least_after { least.new ≡ blocks_after 0 width height (leastAt gray.now width height) least.old }
-    ensures greatest_after { greatest.new ≡ blocks_after 0 width height (greatestAt gray.now width height) greatest.old }
+    ensures means_after { means.new ≡ blocks_after 0 width height (mean_at gray.now width height) means.old }
+    ensures least_after { least.new ≡ blocks_after 0 width height (least_at gray.now width height) least.old }
+    ensures greatest_after { greatest.new ≡ blocks_after 0 width height (greatest_at gray.now width height) greatest.old }
     ensures edges_after { edges.new ≡ blocks_after 0 width height (edge_at gray.now width height) edges.old }
-    ensures nears_after { nears.new ≡ blocks_after 0 width height (nearAt gray.now width height) nears.old }
+    ensures nears_after { nears.new ≡ blocks_after 0 width height (near_at gray.now width height) nears.old }
     ensures bits_after { bits.new ≡ dark_after 0 gray.now width height bits.old }
 {
     block_values(gray, width, height, means, least, greatest, edges, nears);
@@ -84,11 +86,11 @@ pub fn binarize(
 ) -> Outcome
     ensures refusal { number_of result ≡ binarize_refusal (length gray.now) width height (length bits.old) (length means.old
         ∷ length least.old ∷ length greatest.old ∷ length edges.old ∷ length nears.old ∷ []) }
-    ensures means { means.new ≡ blocks_after (number_of result) width height (meanAt gray.now width height) means.old }
-    ensures least { least.new ≡ blocks_after (number_of result) width height (leastAt gray.now width height) least.old }
-    ensures greatest { greatest.new ≡ blocks_after (number_of result) width height (greatestAt gray.now width height) greatest.old }
+    ensures means { means.new ≡ blocks_after (number_of result) width height (mean_at gray.now width height) means.old }
+    ensures least { least.new ≡ blocks_after (number_of result) width height (least_at gray.now width height) least.old }
+    ensures greatest { greatest.new ≡ blocks_after (number_of result) width height (greatest_at gray.now width height) greatest.old }
     ensures edges { edges.new ≡ blocks_after (number_of result) width height (edge_at gray.now width height) edges.old }
-    ensures nears { nears.new ≡ blocks_after (number_of result) width height (nearAt gray.now width height) nears.old }
+    ensures nears { nears.new ≡ blocks_after (number_of result) width height (near_at gray.now width height) nears.old }
     ensures bits { bits.new ≡ dark_after (number_of result) gray.now width height bits.old }
 {
     let checked = check_binarize(

@@ -5,7 +5,7 @@ ghost use Rattle.lcr_core.specs.Passed.{Sides};
 ghost use Rattle.binary.specs.Binary.{bit, word, byte_of, bytes_of};
 ghost use Rattle.binary.specs.Writing.{Written};
 ghost use Rattle.blocks.specs.Blocks.{at, blocks_in};
-ghost use Rattle.binarize.specs.Levels.{windowLevel};
+ghost use Rattle.binarize.specs.Levels.{window_level};
 ghost use Rattle.binarize.specs.Binarize.{dark_by};
 ghost use Rattle.binarize.specs.Splits.{rest_of_eight, byte_of_eight};
 
@@ -34,7 +34,7 @@ fn row_levels<'a>(
     requires { (bw ≤ 512) × (bh ≤ 512) × (y < bh) × (bh * bw ≤ length means.now) × (bh * bw ≤ length edges.now) × (bh * bw ≤ length nears.now)
         × (bw ≤ length levels.old) }
     ensures { levels.new
-        ≡ filled bw (λ x. windowLevel (at means.now) (at edges.now) (at nears.now) bw bh x y global) levels.old }
+        ≡ filled bw (λ x. window_level (at means.now) (at edges.now) (at nears.now) bw bh x y global) levels.old }
 {
     let mut flags = [0u8; 512];
     flag_columns(edges, nears, bw, begins(y, 4), ends(bh, y, 4), &mut flags);

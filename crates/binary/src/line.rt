@@ -5,7 +5,7 @@ ghost use Rattle.binary.specs.Line.{pixel, run, run_back, end_by, limited_before
 use super::bit_of;
 
 // How a run ended: at a pixel of the other colour, at the picture's edge, or at its limit.
-#[derive(Drop)]
+#[derive(Clone, Copy)]
 pub enum End {
     Change,
     Edge,
@@ -13,7 +13,7 @@ pub enum End {
 }
 
 // How many pixels a run has, and how it ended.
-#[derive(Drop)]
+#[derive(Clone, Copy)]
 pub struct Run {
     pub count: u16,
     pub end: End,

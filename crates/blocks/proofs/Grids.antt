@@ -7,7 +7,7 @@ use native.Mathlib.Omega.{arith}
 use lib.ListN.{length, length-append, length-map}
 use Rattle.lists.specs.Lists.{Each, range, folded, flat_map}
 use Rattle.lists.proofs.Numbers.{mul_bound, row_within}
-use Rattle.lists.proofs.Folds.{folded-append, folded_map, length-count, each_range, each-of-map, each_flat_map}
+use Rattle.lists.proofs.Folds.{folded-append, folded_map, length-count, each_range, each_of_map, each_flat_map}
 use Rattle.lcr_core.specs.Passed.{Sides}
 use Rattle.blocks.specs.Blocks.{cells, blocks_on, blocks_in}
 use Rattle.blocks.specs.Steps.{InRect}
@@ -39,7 +39,7 @@ pub each_cells : (P : ℕ → Type 0) (w a b c d : ℕ) → ((x y : ℕ) → a �
 unfolding cells
 each_cells P w a b c d h =
     each_flat_map P (λ y. map (λ x. y * w + x) (range a b)) c d
-    (λ y l m. each-of-map P (λ x. y * w + x) (range a b) (each_range (λ x. P (y * w + x)) a b (λ x k n. h x y k n l m)))
+    (λ y l m. each_of_map P (λ x. y * w + x) (range a b) (each_range (λ x. P (y * w + x)) a b (λ x k n. h x y k n l m)))
 
 -- cells of h rows of w
 pub cells-within : (w h a b c d : ℕ) → b ≤ w → d ≤ h → Each (λ i. i < h * w) (cells w (range a b) (range c d))
@@ -78,7 +78,7 @@ block_within len w h i s all l =
       cols = omega arith;
       narrow = omega arith;
       low = omega arith;
-      rows = omega (arith, s.h-most);
+      rows = omega (arith, s.h_most);
       all = omega (arith, mul-le-mul_right {m = min h (i / blocks_on w * 8 + 8)} {n = h} w (omega arith), mul_comm w h);
     }
 

@@ -4,15 +4,15 @@ use mathlib.Core.List.{List, map}
 use Prim.Native.Nat.{ℕ, ◌+◌, ◌-◌, ◌*◌, ◌/◌, ◌%◌, ◌<◌, min}
 use native.Mathlib.Omega.{arith}
 use Rattle.lists.specs.Lists.{filled}
-use Rattle.lists.proofs.Tabulate.{filled-same, getD-filled}
+use Rattle.lists.proofs.Tabulate.{filled_same, get_or-filled}
 use Rattle.lists.proofs.Filters.{each_map}
 use Rattle.lists.proofs.Folds.{map_same}
-use Rattle.blocks.specs.Blocks.{least, greatest, at, blocks_on, blocks_in, neighbours, mark, edge_of, near_of, leastAt, greatestAt, edge_at, nearAt}
+use Rattle.blocks.specs.Blocks.{least, greatest, at, blocks_on, blocks_in, neighbours, mark, edge_of, near_of, least_at, greatest_at, edge_at, near_at}
 use Rattle.blocks.proofs.Grids.{place, cells-within}
 
 -- what was written at number k
 pub at-filled : (n : ℕ) (f : ℕ → ℕ) (l d : List ℕ) → l ≡ filled n f d → (k : ℕ) → k < n → at l k ≡ f k
-at-filled n f l d e k h = ap (λ (m : List ℕ). at m k) e ∙ getD-filled n f d k 0 h
+at-filled n f l d e k h = ap (λ (m : List ℕ). at m k) e ∙ get_or-filled n f d k 0 h
 
 -- the written values of the blocks near block i
 near_same : (f : ℕ → ℕ) (l d : List ℕ) (bw bh i : ℕ) → l ≡ filled (bh * bw) f d → i < bh * bw → map (at l) (neighbours bw bh i) ≡ map f (neighbours bw bh i)
@@ -22,13 +22,13 @@ near_same f l d bw bh i e h =
     (each_map (λ k. k < bh * bw) (λ k. at l k ≡ f k) (at-filled (bh * bw) f l d e) (neighbours bw bh i)
     (cells-within bw bh (i % bw - 1) (min bw (i % bw + 1 + 1)) (i / bw - 1) (min bh (i / bw + 1 + 1)) (omega arith) (omega arith)))
 
-module _ (g : List ℕ) (w h : ℕ) (lo hi lo₀ hi₀ : List ℕ) (el : lo ≡ filled (blocks_in w h) (leastAt g w h) lo₀) (eh : hi ≡ filled (blocks_in w h) (greatestAt g w h) hi₀) where
-  pub edges-same : (d : List ℕ) → filled (blocks_in w h) (edge_of (at lo) (at hi)) d ≡ filled (blocks_in w h) (edge_at g w h) d
-  edges-same d =
-      filled-same (blocks_in w h) (edge_of (at lo) (at hi)) (edge_at g w h) d
-      (λ k l. ap₂ mark (at-filled (blocks_in w h) (leastAt g w h) lo lo₀ el k l) (at-filled (blocks_in w h) (greatestAt g w h) hi hi₀ eh k l))
+module _ (g : List ℕ) (w h : ℕ) (lo hi lo₀ hi₀ : List ℕ) (el : lo ≡ filled (blocks_in w h) (least_at g w h) lo₀) (eh : hi ≡ filled (blocks_in w h) (greatest_at g w h) hi₀) where
+  pub edges_same : (d : List ℕ) → filled (blocks_in w h) (edge_of (at lo) (at hi)) d ≡ filled (blocks_in w h) (edge_at g w h) d
+  edges_same d =
+      filled_same (blocks_in w h) (edge_of (at lo) (at hi)) (edge_at g w h) d
+      (λ k l. ap₂ mark (at-filled (blocks_in w h) (least_at g w h) lo lo₀ el k l) (at-filled (blocks_in w h) (greatest_at g w h) hi hi₀ eh k l))
 
-  pub nears-same : (d : List ℕ) → filled (blocks_in w h) (near_of (at lo) (at hi) (blocks_on w) (blocks_on h)) d ≡ filled (blocks_in w h) (nearAt g w h) d
-  nears-same d =
-      filled-same (blocks_in w h) (near_of (at lo) (at hi) (blocks_on w) (blocks_on h)) (nearAt g w h) d
-      (λ k l. ap₂ (λ (x y : List ℕ). mark (least x) (greatest y)) (near_same (leastAt g w h) lo lo₀ (blocks_on w) (blocks_on h) k el l) (near_same (greatestAt g w h) hi hi₀ (blocks_on w) (blocks_on h) k eh l))
+  pub nears_same : (d : List ℕ) → filled (blocks_in w h) (near_of (at lo) (at hi) (blocks_on w) (blocks_on h)) d ≡ filled (blocks_in w h) (near_at g w h) d
+  nears_same d =
+      filled_same (blocks_in w h) (near_of (at lo) (at hi) (blocks_on w) (blocks_on h)) (near_at g w h) d
+      (λ k l. ap₂ (λ (x y : List ℕ). mark (least x) (greatest y)) (near_same (least_at g w h) lo lo₀ (blocks_on w) (blocks_on h) k el l) (near_same (greatest_at g w h) hi hi₀ (blocks_on w) (blocks_on h) k eh l))

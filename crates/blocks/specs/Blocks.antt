@@ -71,20 +71,20 @@ module _ (g : List ℕ) (w h : ℕ) where
   unfoldable pub block_at : ℕ → List ℕ
   block_at i = map (at g) (cells w (pixels_of w (i % blocks_on w)) (pixels_of h (i / blocks_on w)))
 
-  abbrev pub meanAt : ℕ → ℕ
-  meanAt i = mean (block_at i)
+  abbrev pub mean_at : ℕ → ℕ
+  mean_at i = mean (block_at i)
 
-  abbrev pub leastAt : ℕ → ℕ
-  leastAt i = least (block_at i)
+  abbrev pub least_at : ℕ → ℕ
+  least_at i = least (block_at i)
 
-  abbrev pub greatestAt : ℕ → ℕ
-  greatestAt i = greatest (block_at i)
+  abbrev pub greatest_at : ℕ → ℕ
+  greatest_at i = greatest (block_at i)
 
   abbrev pub edge_at : ℕ → ℕ
-  edge_at i = edge_of leastAt greatestAt i
+  edge_at i = edge_of least_at greatest_at i
 
-  abbrev pub nearAt : ℕ → ℕ
-  nearAt i = near_of leastAt greatestAt (blocks_on w) (blocks_on h) i
+  abbrev pub near_at : ℕ → ℕ
+  near_at i = near_of least_at greatest_at (blocks_on w) (blocks_on h) i
 
 -- ---- what is refused: 1, 2, 4 below width × height gray bytes, 5 if a work slice is under one byte per block
 

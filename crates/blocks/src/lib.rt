@@ -1,7 +1,9 @@
 // The values and the marks of a picture's 8 × 8 blocks.
+#![tactic(auto)]
+
 ghost use Rattle.std.specs.Prelude.{◌≡◌, ◌∷◌, [], length};
 ghost use Rattle.lcr_core.specs.Outcome.{number_of};
-ghost use Rattle.blocks.specs.Blocks.{meanAt, leastAt, greatestAt, edge_at, nearAt, under, blocks_refusal, blocks_after};
+ghost use Rattle.blocks.specs.Blocks.{mean_at, least_at, greatest_at, edge_at, near_at, under, blocks_refusal, blocks_after};
 ghost use Rattle.blocks.specs.Steps.{Passed};
 
 use lcr_core::Outcome;
@@ -80,11 +82,11 @@ fn values_checked(
     nears: &mut [u8],
 )
     requires { Passed (length gray.now) w h (length means.old) (length least.old) (length greatest.old) (length edges.old) (length nears.old) }
-    ensures means_after { means.new ≡ blocks_after 0 w h (meanAt gray.now w h) means.old }
-    ensures least_after { least.new ≡ blocks_after 0 w h (leastAt gray.now w h) least.old }
-    ensures greatest_after { greatest.new ≡ blocks_after 0 w h (greatestAt gray.now w h) greatest.old }
+    ensures means_after { means.new ≡ blocks_after 0 w h (mean_at gray.now w h) means.old }
+    ensures least_after { least.new ≡ blocks_after 0 w h (least_at gray.now w h) least.old }
+    ensures greatest_after { greatest.new ≡ blocks_after 0 w h (greatest_at gray.now w h) greatest.old }
     ensures edges_after { edges.new ≡ blocks_after 0 w h (edge_at gray.now w h) edges.old }
-    ensures nears_after { nears.new ≡ blocks_after 0 w h (nearAt gray.now w h) nears.old }
+    ensures nears_after { nears.new ≡ blocks_after 0 w h (near_at gray.now w h) nears.old }
 {
     let bw = (w + 7) / 8;
     let bh = (h + 7) / 8;
@@ -106,11 +108,11 @@ pub fn block_values(
 ) -> Outcome
     ensures refusal { number_of result ≡ blocks_refusal (length gray.now) width height (length means.old
         ∷ length least.old ∷ length greatest.old ∷ length edges.old ∷ length nears.old ∷ []) }
-    ensures means { means.new ≡ blocks_after (number_of result) width height (meanAt gray.now width height) means.old }
-    ensures least { least.new ≡ blocks_after (number_of result) width height (leastAt gray.now width height) least.old }
-    ensures greatest { greatest.new ≡ blocks_after (number_of result) width height (greatestAt gray.now width height) greatest.old }
+    ensures means { means.new ≡ blocks_after (number_of result) width height (mean_at gray.now width height) means.old }
+    ensures least { least.new ≡ blocks_after (number_of result) width height (least_at gray.now width height) least.old }
+    ensures greatest { greatest.new ≡ blocks_after (number_of result) width height (greatest_at gray.now width height) greatest.old }
     ensures edges { edges.new ≡ blocks_after (number_of result) width height (edge_at gray.now width height) edges.old }
-    ensures nears { nears.new ≡ blocks_after (number_of result) width height (nearAt gray.now width height) nears.old }
+    ensures nears { nears.new ≡ blocks_after (number_of result) width height (near_at gray.now width height) nears.old }
 {
     let checked = check_blocks(
         gray.len(),

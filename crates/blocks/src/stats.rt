@@ -2,10 +2,10 @@
 ghost use Rattle.std.specs.Prelude.{◌≡◌, ◌+◌, ◌-◌, ◌*◌, ◌≤◌, ◌<◌, min, max, length};
 ghost use Rattle.lists.specs.Lists.{range, folded, filled};
 ghost use Rattle.lcr_core.specs.Passed.{Sides};
-ghost use Rattle.blocks.specs.Blocks.{cells, blocks_in, meanAt, leastAt, greatestAt};
+ghost use Rattle.blocks.specs.Blocks.{cells, blocks_in, mean_at, least_at, greatest_at};
 ghost use Rattle.blocks.specs.Steps.{with_value, cell_step, column_step, no_value, InRect};
 
-#[derive(Drop)]
+#[derive(Clone, Copy)]
 pub struct Stats {
     pub sum: u32,
     pub least: u8,
@@ -75,7 +75,7 @@ pub fn rect_stats(s: &[u8], w: usize, a: usize, b: usize, c: usize, d: usize) ->
 }
 
 // The mean, the least and the greatest value of a block.
-#[derive(Drop)]
+#[derive(Clone, Copy)]
 pub struct Values {
     pub mean: u8,
     pub least: u8,
@@ -85,8 +85,8 @@ pub struct Values {
 // Those of block number i.
 fn values_of(gray: &[u8], w: usize, h: usize, i: usize) -> Values
     requires { Sides w h × (w * h ≤ length gray.now) × (i < blocks_in w h) }
-    ensures { (result.mean ≡ meanAt gray.now w h i) × (result.least ≡ leastAt gray.now w h i)
-        × (result.greatest ≡ greatestAt gray.now w h i) }
+    ensures { (result.mean ≡ mean_at gray.now w h i) × (result.least ≡ least_at gray.now w h i)
+        × (result.greatest ≡ greatest_at gray.now w h i) }
 {
     let bw = (w + 7) / 8;
     let a = i % bw * 8;
@@ -112,9 +112,9 @@ pub fn all_values(
 )
     requires { Sides w h × (w * h ≤ length gray.now) × (blocks_in w h ≤ length means.old)
         × (blocks_in w h ≤ length least.old) × (blocks_in w h ≤ length greatest.old) }
-    ensures means_after { means.new ≡ filled (blocks_in w h) (meanAt gray.now w h) means.old }
-    ensures least_after { least.new ≡ filled (blocks_in w h) (leastAt gray.now w h) least.old }
-    ensures greatest_after { greatest.new ≡ filled (blocks_in w h) (greatestAt gray.now w h) greatest.old }
+    ensures means_after { means.new ≡ filled (blocks_in w h) (mean_at gray.now w h) means.old }
+    ensures least_after { least.new ≡ filled (blocks_in w h) (least_at gray.now w h) least.old }
+    ensures greatest_after { greatest.new ≡ filled (blocks_in w h) (greatest_at gray.now w h) greatest.old }
 {
     let n = (h + 7) / 8 * ((w + 7) / 8);
     let mut i = 0;

@@ -11,14 +11,14 @@ use Rattle.lcr_core.proofs.Checks.{unless-refused}
 use Rattle.binary.specs.Refusal.{bits_refusal}
 use Rattle.geometry.specs.declared.Finder.{Finder}
 use Rattle.finders.specs.declared.Found.{Found}
-use Rattle.finders.specs.Answer.{table_of as findersTable, find_refusal, finders_of, answer_of}
+use Rattle.finders.specs.Answer.{table_of as finders_table, find_refusal, finders_of, answer_of}
 use Rattle.ranking.specs.declared.Eight.{Eight}
 use Rattle.ranking.specs.Ranking.{in_use, eight_of}
 use Rattle.candidates.specs.declared.Answer.{Answer}
 use Rattle.candidates.specs.declared.Detection.{Detection}
 use Rattle.candidates.specs.declared.Detections.{Detections}
 use Rattle.candidates.specs.Candidates.{detections_of, table_of, answered, first, from_answer, detect_answer, detect_first}
-use Rattle.candidates.proofs.Tables.{detections-in}
+use Rattle.candidates.proofs.Tables.{detections_in_lem}
 
 -- ---- a refusal number, and the detections where it is 0
 pub refused : (n : ℕ) (ds : List Detection) (r : Detections) → (n ≡ 0 → ⊥) → r ≡ table_of [] → record { refusal = n; detections = r } ≡ answered n ds
@@ -30,12 +30,12 @@ not-refused n ds r h e = rw (h, e)
 -- ---- the answer of a lent list
 pub from-eight : (bits : List ℕ) (w h : ℕ) (fs : List Finder) (t : Eight) → t ≡ eight_of fs → from_answer bits w h (in_use t) ≡ from_answer bits w h fs
 unfolding from_answer
-from-eight bits w h fs t e = ap (answered (bits_refusal (length bits) w h)) (detections-in bits w h fs t e)
+from-eight bits w h fs t e = ap (answered (bits_refusal (length bits) w h)) (detections_in_lem bits w h fs t e)
 
 -- ---- the answer of a search, and the detections of its finders
 with-found : (bits : List ℕ) (w h n : ℕ) (fs : List Finder) (t : Eight) → t ≡ eight_of (unless n [] fs) → answered n (detections_of bits w h (in_use t)) ≡ answered n (detections_of bits w h fs)
 with-found bits w h (suc n) fs t e = refl
-with-found bits w h zero fs t e = ap (answered 0) (detections-in bits w h fs t e)
+with-found bits w h zero fs t e = ap (answered 0) (detections_in_lem bits w h fs t e)
 
 first-is : (n : ℕ) (ds : List Detection) (d : Detection) (a : Answer) → a ≡ record { refusal = n; detections = table_of ds }
     → record { refusal = a.refusal; found = ltb 0 a.detections.count; detection = get_or a.detections.at 0 d } ≡ first n ds
@@ -43,7 +43,7 @@ first-is n [] d a e = rw e
 first-is n (x ∷ ds) d a e = rw (e, lt-ltb 0 (suc (length ds)) (omega arith))
 
 module _ (bits : List ℕ) (w h : ℕ) where
-  pub searched : (found : Found) (t : Eight) → found ≡ answer_of bits w h → ((gs : List Finder) → found.finders ≡ findersTable gs → t ≡ eight_of gs)
+  pub searched : (found : Found) (t : Eight) → found ≡ answer_of bits w h → ((gs : List Finder) → found.finders ≡ finders_table gs → t ≡ eight_of gs)
       → (r : Answer) → r ≡ answered found.refusal (detections_of bits w h (in_use t)) → r ≡ detect_answer bits w h
   unfolding answer_of detect_answer
   searched found t e k r g =

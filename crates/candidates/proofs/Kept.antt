@@ -11,7 +11,7 @@ use Rattle.ranking.specs.declared.Triple.{Triple}
 use Rattle.ranking.specs.Ranking.{ranked}
 use Rattle.candidates.specs.declared.Built.{Built}
 use Rattle.candidates.specs.declared.Detection.{Detection}
-use Rattle.candidates.specs.Detection.{buildOf}
+use Rattle.candidates.specs.Detection.{build_of}
 use Rattle.candidates.specs.Candidates.{corners_of, kept, detection_of, detections_of}
 
 -- ---- one detection at most
@@ -47,12 +47,12 @@ built_each f (t ∷ ts) = go (f t).found (built_each f ts)
     go false e = e
 
 pub not_replaced : (bits : List ℕ) (w h : ℕ) (fs : List Finder)
-    → length (detections_of bits w h fs) ≡ how_many (λ (t : Triple). (buildOf bits w h (corners_of fs t) t.score).found) (ranked fs)
+    → length (detections_of bits w h fs) ≡ how_many (λ (t : Triple). (build_of bits w h (corners_of fs t) t.score).found) (ranked fs)
 unfolding detections_of detection_of
-not_replaced bits w h fs = built_count (λ (t : Triple). buildOf bits w h (corners_of fs t) t.score) (ranked fs)
+not_replaced bits w h fs = built_count (λ (t : Triple). build_of bits w h (corners_of fs t) t.score) (ranked fs)
 
 -- and each is that of its triple, in rank order
 pub of_its_triple : (bits : List ℕ) (w h : ℕ) (fs : List Finder)
-    → detections_of bits w h fs ≡ map (λ (t : Triple). (buildOf bits w h (corners_of fs t) t.score).detection) (those (λ (t : Triple). (buildOf bits w h (corners_of fs t) t.score).found) (ranked fs))
+    → detections_of bits w h fs ≡ map (λ (t : Triple). (build_of bits w h (corners_of fs t) t.score).detection) (those (λ (t : Triple). (build_of bits w h (corners_of fs t) t.score).found) (ranked fs))
 unfolding detections_of detection_of
-of_its_triple bits w h fs = built_each (λ (t : Triple). buildOf bits w h (corners_of fs t) t.score) (ranked fs)
+of_its_triple bits w h fs = built_each (λ (t : Triple). build_of bits w h (corners_of fs t) t.score) (ranked fs)

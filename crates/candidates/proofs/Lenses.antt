@@ -7,7 +7,7 @@ use Prim.Native.Nat.{ℕ, zero, suc, ◌-◌}
 use lib.Ieee.{Float}
 use lib.ListN.{length, replicate}
 use Rattle.lists.specs.Lists.{Each}
-use Rattle.lists.proofs.Filters.{each_append, each_map, each-among}
+use Rattle.lists.proofs.Filters.{each_append, each_map, each_among}
 use Rattle.lcr_core.specs.Outcome.{unless}
 use Rattle.lcr_core.proofs.Checks.{either}
 use Rattle.lcr_core.specs.declared.version.Found.{Found}
@@ -18,39 +18,39 @@ use Rattle.geometry.specs.declared.Finder.{Finder}
 use Rattle.geometry.specs.declared.Marker.TheVariants.{Missing}
 use Rattle.geometry.specs.Score.{mean_of}
 use Rattle.geometry.specs.Estimate.{estimate_of}
-use Rattle.geometry.proofs.Theorems.{built-plain}
+use Rattle.geometry.proofs.Theorems.{built_plain}
 use Rattle.alignment.proofs.Lenses.{refined-plain}
 use Rattle.finders.specs.Answer.{find_refusal, finders_of}
 use Rattle.ranking.specs.declared.Triple.{Triple}
 use Rattle.ranking.specs.Ranking.{ranked}
 use Rattle.candidates.specs.declared.Built.{Built}
 use Rattle.candidates.specs.declared.Detection.{Detection}
-use Rattle.candidates.specs.Detection.{zero_detection, WithoutLens, none, fitWith, markerBy, refinedFrom, buildWith, buildFor, buildOf}
+use Rattle.candidates.specs.Detection.{zero_detection, WithoutLens, none, fit_with, marker_by, refined_from, build_with, build_for, build_of}
 use Rattle.candidates.specs.Candidates.{corners_of, detection_of, detections_of, table_of, first, from_answer, detect_answer, detect_first}
-use Rattle.candidates.proofs.Grades.{each-kept}
+use Rattle.candidates.proofs.Grades.{each_kept}
 
 -- ---- what is built, and a place where nothing is
 module _ (bits : List ℕ) (w h : ℕ) (c : Corners) (s : Float) where
   abbrev PlainBuilt : Built → Type 0
   PlainBuilt b = WithoutLens b.detection
 
-  with-plain : (v : ℕ) → WithoutLens (buildWith bits w h c s v).detection
-  unfolding buildWith
-  with-plain v =
+  with_plain : (v : ℕ) → WithoutLens (build_with bits w h c s v).detection
+  unfolding build_with
+  with_plain v =
       let m = mean_of c.tl c.tr c.bl in
-      let rough = fitWith bits w h c Missing v in
-      let a = markerBy bits w h c rough.transform v in
-      let fit = fitWith bits w h c a v in
-      let b = refinedFrom bits w h c s fit.transform v in
-      either PlainBuilt rough.found (cond fit.found b none) none (either PlainBuilt fit.found b none (refined-plain bits w h c v fit.transform m (built-plain c a v)) refl) refl
+      let rough = fit_with bits w h c Missing v in
+      let a = marker_by bits w h c rough.transform v in
+      let fit = fit_with bits w h c a v in
+      let b = refined_from bits w h c s fit.transform v in
+      either PlainBuilt rough.found (cond fit.found b none) none (either PlainBuilt fit.found b none (refined-plain bits w h c v fit.transform m (built_plain c a v)) refl) refl
 
-  build-plain : WithoutLens (buildOf bits w h c s).detection
-  unfolding buildOf
-  build-plain = go (estimate_of c)
+  build_plain : WithoutLens (build_of bits w h c s).detection
+  unfolding build_of
+  build_plain = go (estimate_of c)
     where
-      go : (e : Found) → WithoutLens (buildFor bits w h c s e).detection
+      go : (e : Found) → WithoutLens (build_for bits w h c s e).detection
       go Nothing = refl
-      go (Is v) = with-plain v.0
+      go (Is v) = with_plain v.0
 
 -- ---- lists and tables
 zeros_plain : (k : ℕ) → Each WithoutLens (replicate k zero_detection)
@@ -61,28 +61,28 @@ pub none-plain : Each WithoutLens (table_of []).at
 none-plain = zeros_plain 3
 
 module _ (bits : List ℕ) (w h : ℕ) (fs : List Finder) where
-  each-plain : Each WithoutLens (detections_of bits w h fs)
+  each_plain : Each WithoutLens (detections_of bits w h fs)
   unfolding detections_of detection_of
-  each-plain =
-      each-kept (λ (t : Triple). buildOf bits w h (corners_of fs t) t.score) WithoutLens (ranked fs)
-      (each_map _ _ (λ t _ _. build-plain bits w h (corners_of fs t) t.score) (ranked fs) (each-among (ranked fs)))
+  each_plain =
+      each_kept (λ (t : Triple). build_of bits w h (corners_of fs t) t.score) WithoutLens (ranked fs)
+      (each_map _ _ (λ t _ _. build_plain bits w h (corners_of fs t) t.score) (ranked fs) (each_among (ranked fs)))
 
-  table-plain : (n : ℕ) → Each WithoutLens (table_of (unless n [] (detections_of bits w h fs))).at
-  table-plain zero = let ds = detections_of bits w h fs in each_append WithoutLens ds (replicate (3 - length ds) zero_detection) each-plain (zeros_plain (3 - length ds))
-  table-plain (suc n) = none-plain
+  table_plain : (n : ℕ) → Each WithoutLens (table_of (unless n [] (detections_of bits w h fs))).at
+  table_plain zero = let ds = detections_of bits w h fs in each_append WithoutLens ds (replicate (3 - length ds) zero_detection) each_plain (zeros_plain (3 - length ds))
+  table_plain (suc n) = none-plain
 
 -- ---- what the calls answer
 pub from_plain : (bits : List ℕ) (w h : ℕ) (fs : List Finder) → Each WithoutLens (from_answer bits w h fs).detections.at
 unfolding from_answer
-from_plain bits w h fs = table-plain bits w h fs (bits_refusal (length bits) w h)
+from_plain bits w h fs = table_plain bits w h fs (bits_refusal (length bits) w h)
 
 pub detect_plain : (bits : List ℕ) (w h : ℕ) → Each WithoutLens (detect_answer bits w h).detections.at
 unfolding detect_answer
-detect_plain bits w h = table-plain bits w h (finders_of bits w h) (find_refusal bits w h)
+detect_plain bits w h = table_plain bits w h (finders_of bits w h) (find_refusal bits w h)
 
 pub first_plain : (bits : List ℕ) (w h : ℕ) → WithoutLens (detect_first bits w h).detection
 unfolding detect_first
-first_plain bits w h = go (find_refusal bits w h) _ (each-plain bits w h (finders_of bits w h))
+first_plain bits w h = go (find_refusal bits w h) _ (each_plain bits w h (finders_of bits w h))
   where
     go : (n : ℕ) (ds : List Detection) → Each WithoutLens ds → WithoutLens (first n (unless n [] ds)).detection
     go zero [] p = refl

@@ -7,24 +7,24 @@ use native.Mathlib.Omega.{arith}
 use lib.ListN.{length, get_or, set, take, length-append, length-take}
 use lib.Seq.{get_or-take, take_all}
 use Rattle.lists.specs.Lists.{padded, flat_map, tabulate}
-use Rattle.lists.proofs.Padded.{get_d_any, getD-padded, getD-table, padded-more}
+use Rattle.lists.proofs.Padded.{get_d_any, get_or-padded, get_or_table, padded_more}
 use Rattle.lists.proofs.Filters.{each_map}
-use Rattle.lists.proofs.Folds.{flatMap-take, flatMap-few, flatMap-same}
+use Rattle.lists.proofs.Folds.{flat_map-take, flat_map_few, flat_map_same}
 use Rattle.geometry.specs.declared.Corners.{Corners}
 use Rattle.geometry.specs.declared.Finder.{Finder}
 use Rattle.geometry.specs.Order.{zero_finder, order_of}
 use Rattle.finders.specs.declared.Finders.{Finders}
-use Rattle.finders.specs.Answer.{table_of as findersTable}
+use Rattle.finders.specs.Answer.{table_of as finders_table}
 use Rattle.ranking.specs.declared.Eight.{Eight}
 use Rattle.ranking.specs.declared.Ranked.{Ranked}
 use Rattle.ranking.specs.declared.Triple.{Triple}
 use Rattle.ranking.specs.Ranking.{finder_at, ranked, ranked_table, zero_triple, in_use, eight_of}
-use Rattle.ranking.proofs.Theorems.{Admissible, before, ranked-only, ranked-admissible, at-most-three}
+use Rattle.ranking.proofs.Theorems.{Admissible, before, ranked_only, ranked-admissible, at_most_three}
 use Rattle.ranking.proofs.Tables.{in_use_lem, ranked-eight}
 use Rattle.candidates.specs.declared.Built.{Built}
 use Rattle.candidates.specs.declared.Detection.{Detection}
 use Rattle.candidates.specs.declared.Detections.{Detections}
-use Rattle.candidates.specs.Detection.{buildOf, zero_detection}
+use Rattle.candidates.specs.Detection.{build_of, zero_detection}
 use Rattle.candidates.specs.Passing.{Within}
 use Rattle.candidates.specs.Candidates.{corners_of, kept, detection_of, detections_of, table_of}
 use Rattle.candidates.proofs.Kept.{kept_few}
@@ -34,25 +34,25 @@ module _ (found : Detections) (b : Built) (ds : List Detection) (e : found ≡ t
   pub pushed : found.count < 3 → b.found ≡ true → record { count = found.count + 1; at = set found.at found.count b.detection } ≡ table_of (ds ++ kept b)
   pushed l t =
       let m : length ds < 3 = rw e at l in
-      let q : set (padded 3 zero_detection ds) (length ds) b.detection ≡ padded 3 zero_detection (ds ++ (b.detection ∷ [])) = padded-more 3 zero_detection ds b.detection m in
+      let q : set (padded 3 zero_detection ds) (length ds) b.detection ≡ padded 3 zero_detection (ds ++ (b.detection ∷ [])) = padded_more 3 zero_detection ds b.detection m in
       let n : length ds + 1 ≡ length (ds ++ (b.detection ∷ [])) = sym (length-append ds (b.detection ∷ [])) in
       rw (e, t) (rw (q, n))
 
-  pub not-pushed : b.found ≡ false → found ≡ table_of (ds ++ kept b)
-  not-pushed t = rw (t, append-nil) e
+  pub not_pushed : b.found ≡ false → found ≡ table_of (ds ++ kept b)
+  not_pushed t = rw (t, append-nil) e
 
 -- ---- a triple's finders, read from the table. d is what the code would read past an array's end
 module _ (t : Eight) (long : length t.at ≡ 8) (s : Triple) (h : Within (in_use t) s) where
   pub eight-at : (s.i < 8) × (s.j < 8) × (s.k < 8)
-  eight-at = let l = length-take t.count t.at in (omega (arith, h.i-in), omega (arith, h.j-in), omega (arith, h.k-in))
+  eight-at = let l = length-take t.count t.at in (omega (arith, h.i_in), omega (arith, h.j_in), omega (arith, h.k_in))
 
-  in-use-at : (d : Finder) (i : ℕ) → i < length (in_use t) → get_or t.at i d ≡ finder_at (in_use t) i
-  in-use-at d i l =
+  in_use_at : (d : Finder) (i : ℕ) → i < length (in_use t) → get_or t.at i d ≡ finder_at (in_use t) i
+  in_use_at d i l =
       let m = length-take t.count t.at in
       get_d_any t.at i d zero_finder (omega arith) ∙ sym (get_or-take t.count t.at i zero_finder (omega arith))
 
-  pub corners-at : (d : Finder) (r : Corners) → r ≡ order_of (get_or t.at s.i d) (get_or t.at s.j d) (get_or t.at s.k d) → r ≡ corners_of (in_use t) s
-  corners-at d r e = e ∙ rw (in-use-at d s.i h.i-in, in-use-at d s.j h.j-in, in-use-at d s.k h.k-in)
+  pub corners_at_lem : (d : Finder) (r : Corners) → r ≡ order_of (get_or t.at s.i d) (get_or t.at s.j d) (get_or t.at s.k d) → r ≡ corners_of (in_use t) s
+  corners_at_lem d r e = e ∙ rw (in_use_at d s.i h.i_in, in_use_at d s.j h.j_in, in_use_at d s.k h.k_in)
 
 -- ---- the ranked triples, one after the other
 module _ (fs : List Finder) where
@@ -71,9 +71,9 @@ module _ (fs : List Finder) where
   unfolding flat_map
   none_yet bits w h found g = g
 
-  pub first-few : (bits : List ℕ) (w h p : ℕ) (found : Detections) → found ≡ table_of (first bits w h p) → found.count ≤ p
+  pub first_few : (bits : List ℕ) (w h p : ℕ) (found : Detections) → found ≡ table_of (first bits w h p) → found.count ≤ p
   unfolding detection_of
-  first-few bits w h p found g = rw g (omega (arith, flatMap-few (detection_of bits w h fs) (λ s. kept_few (buildOf bits w h (corners_of fs s) s.score)) (take p (ranked fs)), length-take p (ranked fs)))
+  first_few bits w h p found g = rw g (omega (arith, flat_map_few (detection_of bits w h fs) (λ s. kept_few (build_of bits w h (corners_of fs s) s.score)) (take p (ranked fs)), length-take p (ranked fs)))
 
   -- what the code reads of the ranking r
   module _ (r : Ranked) (e : r ≡ ranked_table (ranked fs)) where
@@ -81,31 +81,31 @@ module _ (fs : List Finder) where
     unfolding ranked_table
     ranked-count = ap (λ (r : Ranked). r.count) e
 
-    pub count-few : r.count ≤ 3
-    count-few = omega (arith, ranked-count, at-most-three fs)
+    pub count_few : r.count ≤ 3
+    count_few = omega (arith, ranked-count, at_most_three fs)
 
     pub place_is : (p : ℕ) (d : Triple) → p < r.count → get_or r.at p d ≡ at p
     unfolding ranked_table
     place_is p d l =
         let m : p < length (ranked fs) = rw ranked-count at l in
-        ap (λ (r : Ranked). get_or r.at p d) e ∙ getD-padded 3 zero_triple (ranked fs) p d zero_triple m
+        ap (λ (r : Ranked). get_or r.at p d) e ∙ get_or-padded 3 zero_triple (ranked fs) p d zero_triple m
 
     pub place-within : (p : ℕ) (d : Triple) → p < r.count → Within fs (get_or r.at p d)
     place-within p d l =
         let m : p < length (ranked fs) = rw ranked-count at l in
         rw (place_is p d l) (within p m)
 
-    pub one_more : (bits : List ℕ) (w h : ℕ) (p : ℕ) (d : Triple) → p < r.count → (c : Corners) → c ≡ corners_of fs (get_or r.at p d) → (b : Built) → b ≡ buildOf bits w h c (get_or r.at p d).score
+    pub one_more : (bits : List ℕ) (w h : ℕ) (p : ℕ) (d : Triple) → p < r.count → (c : Corners) → c ≡ corners_of fs (get_or r.at p d) → (b : Built) → b ≡ build_of bits w h c (get_or r.at p d).score
         → (found more : Detections) → found ≡ table_of (first bits w h p) → ((ds : List Detection) → found ≡ table_of ds → more ≡ table_of (ds ++ kept b)) → more ≡ table_of (first bits w h (p + 1))
     unfolding detection_of
     one_more bits w h p d l c ec b eb found more g f =
         let m : p < length (ranked fs) = rw ranked-count at l in
-        let q : kept b ≡ detection_of bits w h fs (at p) = ap kept (eb ∙ ap (λ (x : Corners). buildOf bits w h x (get_or r.at p d).score) ec ∙ ap (λ (t : Triple). buildOf bits w h (corners_of fs t) t.score) (place_is p d l)) in
-        f (first bits w h p) g ∙ ap table_of (ap (λ (l : List Detection). first bits w h p ++ l) q ∙ sym (flatMap-take (detection_of bits w h fs) (ranked fs) p zero_triple m))
+        let q : kept b ≡ detection_of bits w h fs (at p) = ap kept (eb ∙ ap (λ (x : Corners). build_of bits w h x (get_or r.at p d).score) ec ∙ ap (λ (t : Triple). build_of bits w h (corners_of fs t) t.score) (place_is p d l)) in
+        f (first bits w h p) g ∙ ap table_of (ap (λ (l : List Detection). first bits w h p ++ l) q ∙ sym (flat_map-take (detection_of bits w h fs) (ranked fs) p zero_triple m))
 
-    pub all-built : (bits : List ℕ) (w h : ℕ) (p : ℕ) (found : Detections) → p ≡ r.count → found ≡ table_of (first bits w h p) → found ≡ table_of (detections_of bits w h fs)
+    pub all_built : (bits : List ℕ) (w h : ℕ) (p : ℕ) (found : Detections) → p ≡ r.count → found ≡ table_of (first bits w h p) → found ≡ table_of (detections_of bits w h fs)
     unfolding detections_of
-    all-built bits w h p found l g =
+    all_built bits w h p found l g =
         g ∙ ap (λ (l : List Triple). table_of (flat_map (detection_of bits w h fs) l)) (take_all p (ranked fs) (omega (arith, ranked-count)))
 
 -- ---- the detections of a list are those of its first eight
@@ -115,16 +115,16 @@ module _ (bits : List ℕ) (w h : ℕ) (fs : List Finder) where
   same_at t a =
       rw (get_or-take 8 fs t.i zero_finder (omega (arith, a.0.0)), get_or-take 8 fs t.j zero_finder (omega (arith, a.0.0)), get_or-take 8 fs t.k zero_finder (omega (arith, a.0.0)))
 
-  pub detections-eight : detections_of bits w h (take 8 fs) ≡ detections_of bits w h fs
+  pub detections_eight : detections_of bits w h (take 8 fs) ≡ detections_of bits w h fs
   unfolding detections_of
-  detections-eight =
-      rw ranked-eight (flatMap-same (detection_of bits w h (take 8 fs)) (detection_of bits w h fs) (ranked fs) (each_map (λ (t : Triple). Admissible fs t × (before fs t < 3)) _ same_at (ranked fs) (ranked-only fs)))
+  detections_eight =
+      rw ranked-eight (flat_map_same (detection_of bits w h (take 8 fs)) (detection_of bits w h fs) (ranked fs) (each_map (λ (t : Triple). Admissible fs t × (before fs t < 3)) _ same_at (ranked fs) (ranked_only fs)))
 
-  pub detections-in : (t : Eight) → t ≡ eight_of fs → detections_of bits w h (in_use t) ≡ detections_of bits w h fs
-  detections-in t e = ap (λ (t : Eight). detections_of bits w h (in_use t)) e ∙ ap (detections_of bits w h) (in_use_lem fs) ∙ detections-eight
+  pub detections_in_lem : (t : Eight) → t ≡ eight_of fs → detections_of bits w h (in_use t) ≡ detections_of bits w h fs
+  detections_in_lem t e = ap (λ (t : Eight). detections_of bits w h (in_use t)) e ∙ ap (detections_of bits w h) (in_use_lem fs) ∙ detections_eight
 
 -- ---- the first eight of a search
-pub first-eight : (t : Finders) (fs : List Finder) (d : Finder) (r : Eight) → t ≡ findersTable fs
+pub first-eight : (t : Finders) (fs : List Finder) (d : Finder) (r : Eight) → t ≡ finders_table fs
     → r ≡ record { count = min t.count 8; at = get_or t.table 0 d ∷ get_or t.table 1 d ∷ get_or t.table 2 d ∷ get_or t.table 3 d ∷ get_or t.table 4 d ∷ get_or t.table 5 d ∷ get_or t.table 6 d ∷ get_or t.table 7 d ∷ [] }
     → r ≡ eight_of fs
 unfolding eight_of tabulate
@@ -132,4 +132,4 @@ first-eight t fs d r e h =
     h ∙ rw (e, at 0 (omega arith), at 1 (omega arith), at 2 (omega arith), at 3 (omega arith), at 4 (omega arith), at 5 (omega arith), at 6 (omega arith), at 7 (omega arith))
   where
     at : (i : ℕ) → i < 128 → get_or (padded 128 zero_finder fs) i d ≡ finder_at fs i
-    at i l = getD-table 128 zero_finder fs i d l
+    at i l = get_or_table 128 zero_finder fs i d l

@@ -16,9 +16,9 @@ use Rattle.lists.proofs.Folds.{each_range}
 use Rattle.lists.proofs.Numbers.{row_within}
 use Rattle.binary.specs.Binary.{dark_bit, dark_at, bytes_of}
 use Rattle.binary.specs.Line.{row, column, run, run_back, run_before, run_after, end_before, end_after}
-use Rattle.binary.proofs.Ends.{end_of, before-end, after-end}
+use Rattle.binary.proofs.Ends.{end_of, before_end, after_end}
 use Rattle.binary.specs.Refusal.{short_bits, bits_refusal}
-use Rattle.confirm.specs.Confirm.{limit_of, side_before, side_after, counted_of, any_cut, core_of, and_then, verticalBy, horizontalBy, row_by, columnBy, confirmedBy, confirm_vertical, confirm_horizontal, row_confirmed, column_confirmed, confirmed_on}
+use Rattle.confirm.specs.Confirm.{limit_of, side_before, side_after, counted_of, any_cut, core_of, and_then, vertical_by, horizontal_by, row_by, column_by, confirmed_by, confirm_vertical, confirm_horizontal, row_confirmed, column_confirmed, confirmed_on}
 use Rattle.confirm.specs.declared.Centre.{Centre}
 use Rattle.confirm.specs.declared.Centre.TheVariants.{Nowhere}
 use Rattle.confirm.specs.declared.Confirmed.{Confirmed}
@@ -38,40 +38,40 @@ use Rattle.geometry.specs.declared.Marker.{Marker}
 use Rattle.geometry.specs.declared.Marker.TheVariants.{Missing}
 use Rattle.finders.specs.Hits.{Hit, runs, hits, line_hits}
 use Rattle.finders.specs.Held.{Sighting, Held, held, merge_next}
-use Rattle.finders.specs.Search.{max_finders, sighting, seen, rowSightingsBy, columnSightingsBy, sightingsBy, foundBy, sightings, found}
+use Rattle.finders.specs.Search.{max_finders, sighting, seen, row_sightings_by, column_sightings_by, sightings_by, found_by, sightings, found}
 use Rattle.finders.proofs.Axes.{second_same}
 use Rattle.finders.specs.Rank.{ranked}
 use Rattle.finders.specs.Answer.{held_list, find_refusal, finders_of}
-use Rattle.rows.specs.Rows.{pos_part, neg_part, column_end, row_end, radius_of, window_of, middle_of, column_runs, limit_of as rowsLimit, marker_at, confirm_of, starts_at, row_runs, confirmed, seen_of, nearer_of, rowNearest, nearest_of, answer, find_of}
+use Rattle.rows.specs.Rows.{pos_part, neg_part, column_end, row_end, radius_of, window_of, middle_of, column_runs, limit_of as rowsLimit, marker_at, confirm_of, starts_at, row_runs, confirmed, seen_of, nearer_of, row_nearest, nearest_of, answer, find_of}
 use Rattle.rows.specs.declared.Located.{Located}
 use Rattle.rows.specs.declared.window.Window.{Window}
 use Rattle.alignment.specs.declared.Refined.{Refined}
 use Rattle.alignment.specs.declared.template.Votes.{Votes}
-use Rattle.alignment.specs.Template.{taps, no_votes, pixelAt, tapped, moduleDark, centre_of, matched_of}
+use Rattle.alignment.specs.Template.{taps, no_votes, pixel_at, tapped, module_dark, centre_of, matched_of}
 use Rattle.alignment.specs.Alignment.{alignment_refusal, or_else, searched_of, located_of, locate_of, rebuilt_of, refined, refine_of}
-use Rattle.alignment.proofs.Alike.{best-alike}
+use Rattle.alignment.proofs.Alike.{best_alike}
 use Rattle.ranking.specs.declared.Triple.{Triple}
 use Rattle.ranking.specs.Ranking.{ranked as rankedTriples}
 use Rattle.candidates.specs.declared.Detection.{Detection}
 use Rattle.candidates.specs.declared.Built.{Built}
-use Rattle.candidates.specs.Detection.{none, buildWith, buildOf, buildFor}
+use Rattle.candidates.specs.Detection.{none, build_with, build_of, build_for}
 use Rattle.candidates.specs.Candidates.{corners_of, kept, detection_of, detections_of, answered, detect_answer}
 
 -- ---- two lines that agree on their first len pixels
 module _ (f g : ℕ → Bool) (len : ℕ) (same : (k : ℕ) → k < len → f k ≡ g k) where
-  run-same : (c : Bool) (i n : ℕ) → n ≤ len - i → run c f i n ≡ run c g i n
+  run_same : (c : Bool) (i n : ℕ) → n ≤ len - i → run c f i n ≡ run c g i n
   unfolding run
-  run-same c i zero l = refl
-  run-same c i (suc n) l = rw (same i (omega arith), run-same c (suc i) n (omega arith))
+  run_same c i zero l = refl
+  run_same c i (suc n) l = rw (same i (omega arith), run_same c (suc i) n (omega arith))
 
-  back-same : (c : Bool) (i n : ℕ) → i ≤ len → run_back c f i n ≡ run_back c g i n
+  back_same : (c : Bool) (i n : ℕ) → i ≤ len → run_back c f i n ≡ run_back c g i n
   unfolding run_back
-  back-same c zero n l = refl
-  back-same c (suc i) zero l = refl
-  back-same c (suc i) (suc n) l = rw (same i (omega arith), back-same c i n (omega arith))
+  back_same c zero n l = refl
+  back_same c (suc i) zero l = refl
+  back_same c (suc i) (suc n) l = rw (same i (omega arith), back_same c i n (omega arith))
 
   after_same : (c : Bool) (limit i : ℕ) → run_after c f len limit i ≡ run_after c g len limit i
-  after_same c limit i = run-same c i (min limit (len - i)) (omega arith)
+  after_same c limit i = run_same c i (min limit (len - i)) (omega arith)
 
   runs_same : (c : Bool) (k i n : ℕ) → n ≤ len - i → runs f c k i n ≡ runs g c k i n
   unfolding runs
@@ -79,46 +79,46 @@ module _ (f g : ℕ → Bool) (len : ℕ) (same : (k : ℕ) → k < len → f k 
   runs_same c k i (suc n) l =
       rw (same i (omega arith), runs_same c (suc k) (suc i) n (omega arith), runs_same (not c) 1 (suc i) n (omega arith))
 
-  hits-same : line_hits f len ≡ line_hits g len
+  hits_same : line_hits f len ≡ line_hits g len
   unfolding line_hits
-  hits-same = ap (hits 0) (runs_same true 0 0 len (omega arith))
+  hits_same = ap (hits 0) (runs_same true 0 0 len (omega arith))
 
   end_same : (c : Bool) (limit i : ℕ) → i ≤ len → end_before c f limit i ≡ end_before c g limit i
-  end_same c limit i l = before-end c f limit i ∙ ap (end_of limit i) (back-same c i i l) ∙ sym (before-end c g limit i)
+  end_same c limit i l = before_end c f limit i ∙ ap (end_of limit i) (back_same c i i l) ∙ sym (before_end c g limit i)
 
-  end-behind : (c : Bool) (limit i : ℕ) → end_after c f len limit i ≡ end_after c g len limit i
-  end-behind c limit i = after-end c f len limit i ∙ ap (end_of limit (len - i)) (run-same c i (len - i) (omega arith)) ∙ sym (after-end c g len limit i)
+  end_behind : (c : Bool) (limit i : ℕ) → end_after c f len limit i ≡ end_after c g len limit i
+  end_behind c limit i = after_end c f len limit i ∙ ap (end_of limit (len - i)) (run_same c i (len - i) (omega arith)) ∙ sym (after_end c g len limit i)
 
   before_same : (limit i : ℕ) → i ≤ len → side_before f limit i ≡ side_before g limit i
   unfolding side_before
   before_same limit i l =
       let n = i - run_before false g limit i in
-      rw (back-same false i (min limit i) l, end_same false limit i l, back-same true n (min limit n) (omega arith), end_same true limit n (omega arith))
+      rw (back_same false i (min limit i) l, end_same false limit i l, back_same true n (min limit n) (omega arith), end_same true limit n (omega arith))
 
-  behind-same : (limit i : ℕ) → side_after f len limit i ≡ side_after g len limit i
+  behind_same : (limit i : ℕ) → side_after f len limit i ≡ side_after g len limit i
   unfolding side_after
-  behind-same limit i =
+  behind_same limit i =
       let n = i + run_after false g len limit i in
-      rw (after_same false limit i, end-behind false limit i, after_same true limit n, end-behind true limit n)
+      rw (after_same false limit i, end_behind false limit i, after_same true limit n, end_behind true limit n)
 
-  core-same : (i limit : ℕ) → i ≤ len → core_of f len i limit ≡ core_of g len i limit
+  core_same : (i limit : ℕ) → i ≤ len → core_of f len i limit ≡ core_of g len i limit
   unfolding core_of any_cut counted_of
-  core-same i limit l =
-      rw (back-same true i (min limit i) l, end_same true limit i l, after_same true limit (i + 1), end-behind true limit (i + 1), before_same limit (i - run_before true g limit i) (omega arith), behind-same limit (i + 1 + run_after true g len limit (i + 1)))
+  core_same i limit l =
+      rw (back_same true i (min limit i) l, end_same true limit i l, after_same true limit (i + 1), end_behind true limit (i + 1), before_same limit (i - run_before true g limit i) (omega arith), behind_same limit (i + 1 + run_after true g len limit (i + 1)))
 
-  column-same : (i limit : ℕ) → i ≤ len → column_runs f len i limit ≡ column_runs g len i limit
+  column_same : (i limit : ℕ) → i ≤ len → column_runs f len i limit ≡ column_runs g len i limit
   unfolding column_runs
-  column-same i limit l =
-      rw (back-same true i (min limit i) l, after_same true limit (i + 1), back-same false (i - run_before true g limit i) (min limit (i - run_before true g limit i)) (omega arith), after_same false limit (i + 1 + run_after true g len limit (i + 1)))
+  column_same i limit l =
+      rw (back_same true i (min limit i) l, after_same true limit (i + 1), back_same false (i - run_before true g limit i) (min limit (i - run_before true g limit i)) (omega arith), after_same false limit (i + 1 + run_after true g len limit (i + 1)))
 
-  starts-same : (x : ℕ) → x < len → starts_at f x ≡ starts_at g x
+  starts_same : (x : ℕ) → x < len → starts_at f x ≡ starts_at g x
   unfolding starts_at
-  starts-same x l = rw (same x l, same (x - 1) (omega arith))
+  starts_same x l = rw (same x l, same (x - 1) (omega arith))
 
   row_same : (first end x : ℕ) → end ≤ len → x < end → row_runs f first end x ≡ row_runs g first end x
   unfolding row_runs
   row_same first end x m l =
-      rw (run-same true x (end - x) (omega arith), back-same false x (x - first) (omega arith), run-same false (x + run true g x (end - x)) (end - (x + run true g x (end - x))) (omega arith))
+      rw (run_same true x (end - x) (omega arith), back_same false x (x - first) (omega arith), run_same false (x + run true g x (end - x)) (end - (x + run true g x (end - x))) (omega arith))
 
 -- ---- a fold whose steps agree
 folded_same : {S A : Type 0} (g k : S → A → S) (xs : List A) → Each (λ (x : A). (s : S) → g s x ≡ k s x) xs → (s : S) → folded g s xs ≡ folded k s xs
@@ -159,15 +159,15 @@ bottom_within p m w h = omega arith
 
 -- ---- two pictures that agree on their pixels
 module _ (a b : List ℕ) (w h : ℕ) (same : (k : ℕ) → k < w * h → dark_bit a k ≡ dark_bit b k) where
-  row-alike : (y : ℕ) → y < h → (k : ℕ) → k < w → row a w y k ≡ row b w y k
-  row-alike y l k m = same (y * w + k * 1) (omega (arith, row_within y h w l))
+  row_alike : (y : ℕ) → y < h → (k : ℕ) → k < w → row a w y k ≡ row b w y k
+  row_alike y l k m = same (y * w + k * 1) (omega (arith, row_within y h w l))
 
-  column-alike : (x : ℕ) → x < w → (k : ℕ) → k < h → column a w x k ≡ column b w x k
-  column-alike x l k m = same (x + k * w) (omega (arith, row_within k h w m))
+  column_alike : (x : ℕ) → x < w → (k : ℕ) → k < h → column a w x k ≡ column b w x k
+  column_alike x l k m = same (x + k * w) (omega (arith, row_within k h w m))
 
-  pixel-same : (x y : ℕ) → dark_at a w h x y ≡ dark_at b w h x y
+  pixel_same : (x y : ℕ) → dark_at a w h x y ≡ dark_at b w h x y
   unfolding dark_at
-  pixel-same x y = go (ltb x w) refl (ltb y h) refl
+  pixel_same x y = go (ltb x w) refl (ltb y h) refl
     where
       go : (c : Bool) → ltb x w ≡ c → (d : Bool) → ltb y h ≡ d → c && d && dark_bit a (y * w + x) ≡ c && d && dark_bit b (y * w + x)
       go true p true q = same (y * w + x) (omega (arith, ltb-true x w p, row_within y h w (ltb-true y h q)))
@@ -175,210 +175,210 @@ module _ (a b : List ℕ) (w h : ℕ) (same : (k : ℕ) → k < w * h → dark_b
       go false p d q = refl
 
   -- ---- the search
-  down-same : (x y : ℕ) (m : Float) → confirm_vertical a w h x y m ≡ confirm_vertical b w h x y m
-  unfolding verticalBy
-  down-same x y m = rw (pixel-same x y) (go (dark_at b w h x y) refl)
+  down_same : (x y : ℕ) (m : Float) → confirm_vertical a w h x y m ≡ confirm_vertical b w h x y m
+  unfolding vertical_by
+  down_same x y m = rw (pixel_same x y) (go (dark_at b w h x y) refl)
     where
       go : (d : Bool) → dark_at b w h x y ≡ d → cond d (core_of (column a w x) h y (limit_of m)) Nowhere ≡ cond d (core_of (column b w x) h y (limit_of m)) Nowhere
       go true e =
           let i = dark_inside b w h x y true (sym e) refl in
-          core-same (column a w x) (column b w x) h (column-alike x i.0) y (limit_of m) (omega (arith, i.1))
+          core_same (column a w x) (column b w x) h (column_alike x i.0) y (limit_of m) (omega (arith, i.1))
       go false e = refl
 
-  across-same : (x y : ℕ) (m : Float) → confirm_horizontal a w h x y m ≡ confirm_horizontal b w h x y m
-  unfolding horizontalBy
-  across-same x y m = rw (pixel-same x y) (go (dark_at b w h x y) refl)
+  across_same : (x y : ℕ) (m : Float) → confirm_horizontal a w h x y m ≡ confirm_horizontal b w h x y m
+  unfolding horizontal_by
+  across_same x y m = rw (pixel_same x y) (go (dark_at b w h x y) refl)
     where
       go : (d : Bool) → dark_at b w h x y ≡ d → cond d (core_of (row a w y) w x (limit_of m)) Nowhere ≡ cond d (core_of (row b w y) w x (limit_of m)) Nowhere
       go true e =
           let i = dark_inside b w h x y true (sym e) refl in
-          core-same (row a w y) (row b w y) w (row-alike y i.1) x (limit_of m) (omega (arith, i.0))
+          core_same (row a w y) (row b w y) w (row_alike y i.1) x (limit_of m) (omega (arith, i.0))
       go false e = refl
 
-  down-alike : confirm_vertical a w h ≡ confirm_vertical b w h
-  down-alike = fun_ext (λ x. fun_ext (λ y. fun_ext (λ m. down-same x y m)))
+  down_alike : confirm_vertical a w h ≡ confirm_vertical b w h
+  down_alike = fun_ext (λ x. fun_ext (λ y. fun_ext (λ m. down_same x y m)))
 
-  across-alike : confirm_horizontal a w h ≡ confirm_horizontal b w h
-  across-alike = fun_ext (λ x. fun_ext (λ y. fun_ext (λ m. across-same x y m)))
+  across_alike : confirm_horizontal a w h ≡ confirm_horizontal b w h
+  across_alike = fun_ext (λ x. fun_ext (λ y. fun_ext (λ m. across_same x y m)))
 
-  on-row-same : (n : ℕ) (x m : Float) → row_confirmed a w h n x m ≡ row_confirmed b w h n x m
+  on_row_same : (n : ℕ) (x m : Float) → row_confirmed a w h n x m ≡ row_confirmed b w h n x m
   unfolding row_by
-  on-row-same n x m =
-      ap (λ (d : ℕ → ℕ → Float → Centre). row_through d (confirm_horizontal a w h) n x m) down-alike
-      ∙ ap (λ (c : ℕ → ℕ → Float → Centre). row_through (confirm_vertical b w h) c n x m) across-alike
+  on_row_same n x m =
+      ap (λ (d : ℕ → ℕ → Float → Centre). row_through d (confirm_horizontal a w h) n x m) down_alike
+      ∙ ap (λ (c : ℕ → ℕ → Float → Centre). row_through (confirm_vertical b w h) c n x m) across_alike
 
-  on-column-same : (n : ℕ) (x m : Float) → column_confirmed a w h n x m ≡ column_confirmed b w h n x m
-  unfolding columnBy
-  on-column-same n x m =
-      ap (λ (d : ℕ → ℕ → Float → Centre). column_through d (confirm_horizontal a w h) n x m) down-alike
-      ∙ ap (λ (c : ℕ → ℕ → Float → Centre). column_through (confirm_vertical b w h) c n x m) across-alike
+  on_column_same : (n : ℕ) (x m : Float) → column_confirmed a w h n x m ≡ column_confirmed b w h n x m
+  unfolding column_by
+  on_column_same n x m =
+      ap (λ (d : ℕ → ℕ → Float → Centre). column_through d (confirm_horizontal a w h) n x m) down_alike
+      ∙ ap (λ (c : ℕ → ℕ → Float → Centre). column_through (confirm_vertical b w h) c n x m) across_alike
 
-  confirmed-same : (columns : Bool) (n : ℕ) (x m : Float) → confirmed_on a w h columns n x m ≡ confirmed_on b w h columns n x m
-  unfolding confirmedBy
-  confirmed-same columns n x m = rw (on-column-same n x m, on-row-same n x m)
+  confirmed_same : (columns : Bool) (n : ℕ) (x m : Float) → confirmed_on a w h columns n x m ≡ confirmed_on b w h columns n x m
+  unfolding confirmed_by
+  confirmed_same columns n x m = rw (on_column_same n x m, on_row_same n x m)
 
   seen_same : (columns : Bool) (n : ℕ) (t : Hit) → seen a w h columns n t ≡ seen b w h columns n t
-  seen_same columns n t = ap (sighting t.pitch) (confirmed-same columns n t.centre t.pitch)
+  seen_same columns n t = ap (sighting t.pitch) (confirmed_same columns n t.centre t.pitch)
 
   seen_alike : (columns : Bool) (n : ℕ) (ts : List Hit) → flat_map (seen a w h columns n) ts ≡ flat_map (seen b w h columns n) ts
   seen_alike columns n ts = ap (λ (s : Hit → List Sighting). flat_map s ts) (fun_ext (λ t. seen_same columns n t))
 
-  in-row-same : (y : ℕ) → y < h → rowSightingsBy core_of a w h y ≡ rowSightingsBy core_of b w h y
-  in-row-same y l =
-      ap (flat_map (seen a w h false y)) (hits-same (row a w y) (row b w y) w (row-alike y l)) ∙ seen_alike false y (line_hits (row b w y) w)
+  in_row_same : (y : ℕ) → y < h → row_sightings_by core_of a w h y ≡ row_sightings_by core_of b w h y
+  in_row_same y l =
+      ap (flat_map (seen a w h false y)) (hits_same (row a w y) (row b w y) w (row_alike y l)) ∙ seen_alike false y (line_hits (row b w y) w)
 
-  in-column-same : (x : ℕ) → x < w → columnSightingsBy core_of a w h x ≡ columnSightingsBy core_of b w h x
-  in-column-same x l =
-      ap (flat_map (seen a w h true x)) (hits-same (column a w x) (column b w x) h (column-alike x l)) ∙ seen_alike true x (line_hits (column b w x) h)
+  in_column_same : (x : ℕ) → x < w → column_sightings_by core_of a w h x ≡ column_sightings_by core_of b w h x
+  in_column_same x l =
+      ap (flat_map (seen a w h true x)) (hits_same (column a w x) (column b w x) h (column_alike x l)) ∙ seen_alike true x (line_hits (column b w x) h)
 
-  sightings-same : sightings a w h ≡ sightings b w h
-  unfolding sightingsBy
-  sightings-same =
-      rw (second_same (rowSightingsBy core_of a w h) (rowSightingsBy core_of b w h) h (λ k l. in-row-same (2 * k) l), second_same (columnSightingsBy core_of a w h) (columnSightingsBy core_of b w h) w (λ k l. in-column-same (2 * k) l))
+  sightings_same : sightings a w h ≡ sightings b w h
+  unfolding sightings_by
+  sightings_same =
+      rw (second_same (row_sightings_by core_of a w h) (row_sightings_by core_of b w h) h (λ k l. in_row_same (2 * k) l), second_same (column_sightings_by core_of a w h) (column_sightings_by core_of b w h) w (λ k l. in_column_same (2 * k) l))
 
-  pub found-same : found a w h ≡ found b w h
-  unfolding foundBy
-  found-same = ap (folded (merge_next max_finders) (held [])) sightings-same
+  pub found_same : found a w h ≡ found b w h
+  unfolding found_by
+  found_same = ap (folded (merge_next max_finders) (held [])) sightings_same
 
   -- ---- the search for the marker along rows
-  confirm-same : (m : Float) (y : ℕ) (x : Float) → confirm_of a w h m y x ≡ confirm_of b w h m y x
+  confirm_same : (m : Float) (y : ℕ) (x : Float) → confirm_of a w h m y x ≡ confirm_of b w h m y x
   unfolding confirm_of
-  confirm-same m y x = let i = to_unsigned 32 x in rw (pixel-same i y) (go i (dark_at b w h i y) refl)
+  confirm_same m y x = let i = to_unsigned 32 x in rw (pixel_same i y) (go i (dark_at b w h i y) refl)
     where
       go : (i : ℕ) (d : Bool) → dark_at b w h i y ≡ d
           → cond d (marker_at m x (column_runs (column a w i) h y (rowsLimit m))) Missing ≡ cond d (marker_at m x (column_runs (column b w i) h y (rowsLimit m))) Missing
       go i true e =
           let k = dark_inside b w h i y true (sym e) refl in
-          ap (marker_at m x) (column-same (column a w i) (column b w i) h (column-alike i k.0) y (rowsLimit m) (omega (arith, k.1)))
+          ap (marker_at m x) (column_same (column a w i) (column b w i) h (column_alike i k.0) y (rowsLimit m) (omega (arith, k.1)))
       go i false e = refl
 
-  seenOf-same : (first end : ℕ) (m : Float) (y x : ℕ) → y < h → x < end → end ≤ w → seen_of a w h first end m y x ≡ seen_of b w h first end m y x
+  seen_of_same : (first end : ℕ) (m : Float) (y x : ℕ) → y < h → x < end → end ≤ w → seen_of a w h first end m y x ≡ seen_of b w h first end m y x
   unfolding seen_of confirmed
-  seenOf-same first end m y x l k e =
-      rw (starts-same (row a w y) (row b w y) w (row-alike y l) x (omega arith), row_same (row a w y) (row b w y) w (row-alike y l) first end x e k, confirm-same m y (middle_of (row_runs (row b w y) first end x)))
+  seen_of_same first end m y x l k e =
+      rw (starts_same (row a w y) (row b w y) w (row_alike y l) x (omega arith), row_same (row a w y) (row b w y) w (row_alike y l) first end x e k, confirm_same m y (middle_of (row_runs (row b w y) first end x)))
 
-  along-same : (first end : ℕ) (p : Point) (m : Float) (y : ℕ) → y < h → end ≤ w → (best : Marker) → rowNearest a w h first end p m best y ≡ rowNearest b w h first end p m best y
-  unfolding rowNearest
-  along-same first end p m y l e best =
+  along_same : (first end : ℕ) (p : Point) (m : Float) (y : ℕ) → y < h → end ≤ w → (best : Marker) → row_nearest a w h first end p m best y ≡ row_nearest b w h first end p m best y
+  unfolding row_nearest
+  along_same first end p m y l e best =
       folded_same (λ (s : Marker) (x : ℕ). nearer_of p s (seen_of a w h first end m y x)) (λ (s : Marker) (x : ℕ). nearer_of p s (seen_of b w h first end m y x)) (range (first + 1) end)
-      (each_range (λ x. (s : Marker) → nearer_of p s (seen_of a w h first end m y x) ≡ nearer_of p s (seen_of b w h first end m y x)) (first + 1) end (λ x _ k s. ap (nearer_of p s) (seenOf-same first end m y x l k e)))
+      (each_range (λ x. (s : Marker) → nearer_of p s (seen_of a w h first end m y x) ≡ nearer_of p s (seen_of b w h first end m y x)) (first + 1) end (λ x _ k s. ap (nearer_of p s) (seen_of_same first end m y x l k e)))
       best
 
-  nearest-same : (v : Window) (p : Point) (m : Float) → v.end ≤ w → v.bottom ≤ h → nearest_of a w h v p m ≡ nearest_of b w h v p m
+  nearest_same : (v : Window) (p : Point) (m : Float) → v.end ≤ w → v.bottom ≤ h → nearest_of a w h v p m ≡ nearest_of b w h v p m
   unfolding nearest_of
-  nearest-same v p m e l =
-      folded_same (rowNearest a w h v.first v.end p m) (rowNearest b w h v.first v.end p m) (range v.top v.bottom)
-      (each_range (λ y. (s : Marker) → rowNearest a w h v.first v.end p m s y ≡ rowNearest b w h v.first v.end p m s y) v.top v.bottom (λ y _ k s. along-same v.first v.end p m y (omega arith) e s))
+  nearest_same v p m e l =
+      folded_same (row_nearest a w h v.first v.end p m) (row_nearest b w h v.first v.end p m) (range v.top v.bottom)
+      (each_range (λ y. (s : Marker) → row_nearest a w h v.first v.end p m s y ≡ row_nearest b w h v.first v.end p m s y) v.top v.bottom (λ y _ k s. along_same v.first v.end p m y (omega arith) e s))
       Missing
 
   -- ---- the template match
-  tap-same : (v : Votes) (p : Point) → tapped a w h v p ≡ tapped b w h v p
-  unfolding tapped pixelAt
-  tap-same v p = rw (pixel-same (to_unsigned 32 p.x) (to_unsigned 32 p.y))
+  tap_same : (v : Votes) (p : Point) → tapped a w h v p ≡ tapped b w h v p
+  unfolding tapped pixel_at
+  tap_same v p = rw (pixel_same (to_unsigned 32 p.x) (to_unsigned 32 p.y))
 
-  taps-alike : tapped a w h ≡ tapped b w h
-  taps-alike = fun_ext (λ v. fun_ext (λ p. tap-same v p))
+  taps_alike : tapped a w h ≡ tapped b w h
+  taps_alike = fun_ext (λ v. fun_ext (λ p. tap_same v p))
 
   module _ (t : Transform) where
-    module-same : (x y : Float) → moduleDark a w h t x y ≡ moduleDark b w h t x y
-    unfolding moduleDark
-    module-same x y =
-        ap (λ (f : Votes → Point → Votes). let v = folded (λ (v : Votes) (o : Point). f v (applied t (plus32 x o.x) (plus32 y o.y))) no_votes taps in ltb v.seen (v.dark * 2)) taps-alike
+    module_same : (x y : Float) → module_dark a w h t x y ≡ module_dark b w h t x y
+    unfolding module_dark
+    module_same x y =
+        ap (λ (f : Votes → Point → Votes). let v = folded (λ (v : Votes) (o : Point). f v (applied t (plus32 x o.x) (plus32 y o.y))) no_votes taps in ltb v.seen (v.dark * 2)) taps_alike
 
-    matched-same : (v : ℕ) → matched_of a w h t v ≡ matched_of b w h t v
+    matched_same : (v : ℕ) → matched_of a w h t v ≡ matched_of b w h t v
     unfolding matched_of
-    matched-same v = rw (best-alike a b w h t t module-same (centre_of v))
+    matched_same v = rw (best_alike a b w h t t module_same (centre_of v))
 
   -- ---- what is refused for too few bytes, and what follows
   module _ (short : short_bits (length a) w h ≡ short_bits (length b) w h) where
-    refusal-same : bits_refusal (length a) w h ≡ bits_refusal (length b) w h
+    refusal_same : bits_refusal (length a) w h ≡ bits_refusal (length b) w h
     unfolding bits_refusal
-    refusal-same = rw short
+    refusal_same = rw short
 
-    alignment-same : (v : ℕ) → alignment_refusal (length a) w h v ≡ alignment_refusal (length b) w h v
+    alignment_same : (v : ℕ) → alignment_refusal (length a) w h v ≡ alignment_refusal (length b) w h v
     unfolding alignment_refusal
-    alignment-same v = rw short
+    alignment_same v = rw short
 
-    six-same : find_refusal a w h ≡ find_refusal b w h
+    six_same : find_refusal a w h ≡ find_refusal b w h
     unfolding find_refusal
-    six-same = rw (short, found-same)
+    six_same = rw (short, found_same)
 
-    find-same : (p : Point) (m : Float) → find_of a w h p m ≡ find_of b w h p m
+    find_same : (p : Point) (m : Float) → find_of a w h p m ≡ find_of b w h p m
     unfolding find_of
-    find-same p m = rw (refusal-same, nearest-same (window_of p m w h) p m (end_within p m w h) (bottom_within p m w h))
+    find_same p m = rw (refusal_same, nearest_same (window_of p m w h) p m (end_within p m w h) (bottom_within p m w h))
 
-    searched-same : (t : Transform) (v : ℕ) (m : Float) → searched_of a w h t v m ≡ searched_of b w h t v m
+    searched_same : (t : Transform) (v : ℕ) (m : Float) → searched_of a w h t v m ≡ searched_of b w h t v m
     unfolding searched_of
-    searched-same t v m = ap (λ (l : Located). l.marker) (find-same (applied t (centre_of v) (centre_of v)) m)
+    searched_same t v m = ap (λ (l : Located). l.marker) (find_same (applied t (centre_of v) (centre_of v)) m)
 
-    located-same : (t : Transform) (v : ℕ) (m : Float) → located_of a w h t v m ≡ located_of b w h t v m
+    located_same : (t : Transform) (v : ℕ) (m : Float) → located_of a w h t v m ≡ located_of b w h t v m
     unfolding located_of
-    located-same t v m =
-        ap (λ (k : Marker). cond (ltb v 2) Missing (or_else k (searched_of a w h t v m))) (matched-same t v)
-        ∙ ap (λ (k : Marker). cond (ltb v 2) Missing (or_else (matched_of b w h t v) k)) (searched-same t v m)
+    located_same t v m =
+        ap (λ (k : Marker). cond (ltb v 2) Missing (or_else k (searched_of a w h t v m))) (matched_same t v)
+        ∙ ap (λ (k : Marker). cond (ltb v 2) Missing (or_else (matched_of b w h t v) k)) (searched_same t v m)
 
-    locate-same : (t : Transform) (v : ℕ) (m : Float) → locate_of a w h t v m ≡ locate_of b w h t v m
+    locate_same : (t : Transform) (v : ℕ) (m : Float) → locate_of a w h t v m ≡ locate_of b w h t v m
     unfolding locate_of
-    locate-same t v m =
-        ap (λ (n : ℕ). answer n (located_of a w h t v m)) (alignment-same v) ∙ ap (answer (alignment_refusal (length b) w h v)) (located-same t v m)
+    locate_same t v m =
+        ap (λ (n : ℕ). answer n (located_of a w h t v m)) (alignment_same v) ∙ ap (answer (alignment_refusal (length b) w h v)) (located_same t v m)
 
-    refine-same : (c : Corners) (v : ℕ) (t : Transform) (m : Float) → refine_of a w h c v t m ≡ refine_of b w h c v t m
+    refine_same : (c : Corners) (v : ℕ) (t : Transform) (m : Float) → refine_of a w h c v t m ≡ refine_of b w h c v t m
     unfolding refine_of
-    refine-same c v t m =
-        ap (λ (n : ℕ). refined n (rebuilt_of c (located_of a w h t v m) v t) (located_of a w h t v m)) (alignment-same v)
-        ∙ ap (λ (k : Marker). refined (alignment_refusal (length b) w h v) (rebuilt_of c k v t) k) (located-same t v m)
+    refine_same c v t m =
+        ap (λ (n : ℕ). refined n (rebuilt_of c (located_of a w h t v m) v t) (located_of a w h t v m)) (alignment_same v)
+        ∙ ap (λ (k : Marker). refined (alignment_refusal (length b) w h v) (rebuilt_of c k v t) k) (located_same t v m)
 
-    build-same : (c : Corners) (s : Float) (v : ℕ) → buildWith a w h c s v ≡ buildWith b w h c s v
-    unfolding buildWith
-    build-same c s v =
+    build_same : (c : Corners) (s : Float) (v : ℕ) → build_with a w h c s v ≡ build_with b w h c s v
+    unfolding build_with
+    build_same c s v =
         let m = mean_of c.tl c.tr c.bl in
-        ap (λ (l : Transform → Marker). build_by l (λ t. refine_of a w h c v t m) c s v) (fun_ext (λ t. ap (λ (l : Located). l.marker) (locate-same t v m)))
-        ∙ ap (λ (r : Transform → Refined). build_by (λ t. (locate_of b w h t v m).marker) r c s v) (fun_ext (λ t. refine-same c v t m))
+        ap (λ (l : Transform → Marker). build_by l (λ t. refine_of a w h c v t m) c s v) (fun_ext (λ t. ap (λ (l : Located). l.marker) (locate_same t v m)))
+        ∙ ap (λ (r : Transform → Refined). build_by (λ t. (locate_of b w h t v m).marker) r c s v) (fun_ext (λ t. refine_same c v t m))
 
-    built-same : (c : Corners) (s : Float) → buildOf a w h c s ≡ buildOf b w h c s
-    unfolding buildOf
-    built-same c s = go (estimate_of c)
+    built_same : (c : Corners) (s : Float) → build_of a w h c s ≡ build_of b w h c s
+    unfolding build_of
+    built_same c s = go (estimate_of c)
       where
-        go : (e : Found) → buildFor a w h c s e ≡ buildFor b w h c s e
+        go : (e : Found) → build_for a w h c s e ≡ build_for b w h c s e
         go Nothing = refl
-        go (Is v) = build-same c s v.0
+        go (Is v) = build_same c s v.0
 
-    pub detections-same : (fs : List Finder) → detections_of a w h fs ≡ detections_of b w h fs
+    pub detections_same : (fs : List Finder) → detections_of a w h fs ≡ detections_of b w h fs
     unfolding detections_of detection_of
-    detections-same fs = ap (λ (f : Triple → List Detection). flat_map f (rankedTriples fs)) (fun_ext (λ t. ap kept (built-same (corners_of fs t) t.score)))
+    detections_same fs = ap (λ (f : Triple → List Detection). flat_map f (rankedTriples fs)) (fun_ext (λ t. ap kept (built_same (corners_of fs t) t.score)))
 
-    pub answer-same : detect_answer a w h ≡ detect_answer b w h
+    pub answer_same : detect_answer a w h ≡ detect_answer b w h
     unfolding detect_answer
-    answer-same =
-        ap (λ (n : ℕ). answered n (detections_of a w h (finders_of a w h))) six-same
-        ∙ ap (λ (s : Held). answered (find_refusal b w h) (detections_of a w h (ranked (held_list s)))) found-same
-        ∙ ap (answered (find_refusal b w h)) (detections-same (finders_of b w h))
+    answer_same =
+        ap (λ (n : ℕ). answered n (detections_of a w h (finders_of a w h))) six_same
+        ∙ ap (λ (s : Held). answered (find_refusal b w h) (detections_of a w h (ranked (held_list s)))) found_same
+        ∙ ap (answered (find_refusal b w h)) (detections_same (finders_of b w h))
 
 -- ---- the bytes of the picture are enough
 module _ (bits : List ℕ) (w h : ℕ) where
-  bits-alike : (k : ℕ) → k < w * h → dark_bit (take (bytes_of (w * h)) bits) k ≡ dark_bit bits k
+  bits_alike : (k : ℕ) → k < w * h → dark_bit (take (bytes_of (w * h)) bits) k ≡ dark_bit bits k
   unfolding dark_bit
-  bits-alike k l = rw (get_or-take (bytes_of (w * h)) bits (k / 8) 0 (omega arith))
+  bits_alike k l = rw (get_or-take (bytes_of (w * h)) bits (k / 8) 0 (omega arith))
 
-  short-alike : short_bits (length (take (bytes_of (w * h)) bits)) w h ≡ short_bits (length bits) w h
+  short_alike : short_bits (length (take (bytes_of (w * h)) bits)) w h ≡ short_bits (length bits) w h
   unfolding short_bits
-  short-alike = rw (length-take (bytes_of (w * h)) bits) (go (ltb (length bits) (bytes_of (w * h))) refl)
+  short_alike = rw (length-take (bytes_of (w * h)) bits) (go (ltb (length bits) (bytes_of (w * h))) refl)
     where
       go : (s : Bool) → ltb (length bits) (bytes_of (w * h)) ≡ s → ltb (min (bytes_of (w * h)) (length bits)) (bytes_of (w * h)) ≡ ltb (length bits) (bytes_of (w * h))
       go true e = lt-ltb (min (bytes_of (w * h)) (length bits)) (bytes_of (w * h)) (omega (arith, ltb-true (length bits) (bytes_of (w * h)) e)) ∙ sym e
       go false e = le-ltb (min (bytes_of (w * h)) (length bits)) (bytes_of (w * h)) (omega (arith, ltb-false (length bits) (bytes_of (w * h)) e)) ∙ sym e
 
-  pub found-tail : found (take (bytes_of (w * h)) bits) w h ≡ found bits w h
-  found-tail = found-same (take (bytes_of (w * h)) bits) bits w h bits-alike
+  pub found_tail : found (take (bytes_of (w * h)) bits) w h ≡ found bits w h
+  found_tail = found_same (take (bytes_of (w * h)) bits) bits w h bits_alike
 
-  pub finders-tail : finders_of (take (bytes_of (w * h)) bits) w h ≡ finders_of bits w h
-  finders-tail = ap (λ (s : Held). ranked (held_list s)) found-tail
+  pub finders_tail : finders_of (take (bytes_of (w * h)) bits) w h ≡ finders_of bits w h
+  finders_tail = ap (λ (s : Held). ranked (held_list s)) found_tail
 
-  pub refusal-tail : find_refusal (take (bytes_of (w * h)) bits) w h ≡ find_refusal bits w h
-  refusal-tail = six-same (take (bytes_of (w * h)) bits) bits w h bits-alike short-alike
+  pub refusal_tail : find_refusal (take (bytes_of (w * h)) bits) w h ≡ find_refusal bits w h
+  refusal_tail = six_same (take (bytes_of (w * h)) bits) bits w h bits_alike short_alike
 
-  pub detections-tail : (fs : List Finder) → detections_of (take (bytes_of (w * h)) bits) w h fs ≡ detections_of bits w h fs
-  detections-tail fs = detections-same (take (bytes_of (w * h)) bits) bits w h bits-alike short-alike fs
+  pub detections_tail : (fs : List Finder) → detections_of (take (bytes_of (w * h)) bits) w h fs ≡ detections_of bits w h fs
+  detections_tail fs = detections_same (take (bytes_of (w * h)) bits) bits w h bits_alike short_alike fs
 
-  pub answer-tail : detect_answer (take (bytes_of (w * h)) bits) w h ≡ detect_answer bits w h
-  answer-tail = answer-same (take (bytes_of (w * h)) bits) bits w h bits-alike short-alike
+  pub answer_tail : detect_answer (take (bytes_of (w * h)) bits) w h ≡ detect_answer bits w h
+  answer_tail = answer_same (take (bytes_of (w * h)) bits) bits w h bits_alike short_alike

@@ -10,7 +10,7 @@ use lib.ListN.{length}
 use borrow.Author.Tests.{le-leb}
 use Rattle.float.specs.Constants.{f0}
 use Rattle.lists.specs.Lists.{Each, flat_map}
-use Rattle.lists.proofs.Folds.{flatMap-few}
+use Rattle.lists.proofs.Folds.{flat_map_few}
 use Rattle.lcr_core.specs.Outcome.{zero_side, large_side}
 use Rattle.lcr_core.proofs.Checks.{first_passes}
 use Rattle.lcr_core.specs.declared.version.Found.TheVariants.{Is, Nothing}
@@ -28,8 +28,8 @@ use Rattle.alignment.specs.Alignment.{alignment_refusal, locate_of, refine_of}
 use Rattle.finders.specs.Answer.{find_refusal, finders_of}
 use Rattle.ranking.specs.declared.Triple.{Triple}
 use Rattle.ranking.specs.Ranking.{ranked}
-use Rattle.ranking.proofs.Theorems.{Admissible, before, ranked-only, at-most-three}
-use Rattle.candidates.specs.Detection.{buildOf}
+use Rattle.ranking.proofs.Theorems.{Admissible, before, ranked_only, at_most_three}
+use Rattle.candidates.specs.Detection.{build_of}
 use Rattle.candidates.specs.Candidates.{corners_of, detection_of, detections_of, from_answer, detect_answer}
 use Rattle.candidates.proofs.Kept.{kept_few}
 
@@ -61,17 +61,17 @@ module _ (bits : List ℕ) (w h : ℕ) (done : bits_refusal (length bits) w h �
   unfolding alignment_refusal
   passes = let p = bits_passed (length bits) w h done in rw (p.0, p.1, p.2, estimate_valid c v e)
 
-  pub built-not-refused : (m : Marker) → (built_of c m v.0).refusal ≡ 0
+  pub built_not_refused : (m : Marker) → (built_of c m v.0).refusal ≡ 0
   unfolding built_of version_refusal
-  built-not-refused m = rw (estimate_valid c v e)
+  built_not_refused m = rw (estimate_valid c v e)
 
-  pub located-not-refused : (t : Transform) (m : Float) → (locate_of bits w h t v.0 m).refusal ≡ 0
+  pub located_not_refused : (t : Transform) (m : Float) → (locate_of bits w h t v.0 m).refusal ≡ 0
   unfolding locate_of
-  located-not-refused t m = passes
+  located_not_refused t m = passes
 
-  pub refined-not-refused : (t : Transform) (m : Float) → (refine_of bits w h c v.0 t m).refusal ≡ 0
+  pub refined_not_refused : (t : Transform) (m : Float) → (refine_of bits w h c v.0 t m).refusal ≡ 0
   unfolding refine_of
-  refined-not-refused t m = passes
+  refined_not_refused t m = passes
 
 -- ---- of a picture that isn't refused, the two calls agree
 found_passed : (bits : List ℕ) (w h : ℕ) → find_refusal bits w h ≡ 0 → bits_refusal (length bits) w h ≡ 0
@@ -89,7 +89,7 @@ same_answer bits w h e = rw (e, found_passed bits w h e)
 -- ---- three at most, and none of fewer than three finders
 pub three_at_most : (bits : List ℕ) (w h : ℕ) (fs : List Finder) → length (detections_of bits w h fs) ≤ 3
 unfolding detections_of detection_of
-three_at_most bits w h fs = omega (arith, flatMap-few (detection_of bits w h fs) (λ t. kept_few (buildOf bits w h (corners_of fs t) t.score)) (ranked fs), at-most-three fs)
+three_at_most bits w h fs = omega (arith, flat_map_few (detection_of bits w h fs) (λ t. kept_few (build_of bits w h (corners_of fs t) t.score)) (ranked fs), at_most_three fs)
 
 none_of_two : (fs : List Finder) → length fs < 3 → (ts : List Triple) → Each (λ (t : Triple). Admissible fs t × (before fs t < 3)) ts → ts ≡ []
 unfolding Admissible
@@ -98,4 +98,4 @@ none_of_two fs l (t ∷ ts) h = absurd (omega (arith, h.0.0.0))
 
 pub none_of_few : (bits : List ℕ) (w h : ℕ) (fs : List Finder) → length fs < 3 → detections_of bits w h fs ≡ []
 unfolding detections_of flat_map
-none_of_few bits w h fs l = ap (flat_map (detection_of bits w h fs)) (none_of_two fs l (ranked fs) (ranked-only fs))
+none_of_few bits w h fs l = ap (flat_map (detection_of bits w h fs)) (none_of_two fs l (ranked fs) (ranked_only fs))

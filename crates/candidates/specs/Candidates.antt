@@ -15,7 +15,7 @@ use Rattle.candidates.specs.declared.Built.{Built}
 use Rattle.candidates.specs.declared.Detection.{Detection}
 use Rattle.candidates.specs.declared.Detections.{Detections}
 use Rattle.candidates.specs.declared.First.{First}
-use Rattle.candidates.specs.Detection.{buildOf, zero_detection}
+use Rattle.candidates.specs.Detection.{build_of, zero_detection}
 
 -- a triple's finders, ordered
 abbrev pub corners_of : List Finder → Triple → Corners
@@ -27,7 +27,7 @@ kept b = cond b.found (b.detection ∷ []) []
 
 -- that of a triple of the finders fs, with its score
 unfoldable pub detection_of : List ℕ → ℕ → ℕ → List Finder → Triple → List Detection
-detection_of bits w h fs t = kept (buildOf bits w h (corners_of fs t) t.score)
+detection_of bits w h fs t = kept (build_of bits w h (corners_of fs t) t.score)
 
 -- the detections of a list of finders in a picture: those of the ranked triples, in rank order
 unfoldable pub detections_of : List ℕ → ℕ → ℕ → List Finder → List Detection

@@ -46,33 +46,33 @@ module _ (bits : List ℕ) (w h : ℕ) (c : Corners) where
   mean = mean_of c.tl c.tr c.bl
 
   -- the transform for version v through the finders and a marker, if there is one
-  abbrev pub fitWith : Marker → ℕ → Fit
-  fitWith m v = (built_of c m v).fit
+  abbrev pub fit_with : Marker → ℕ → Fit
+  fit_with m v = (built_of c m v).fit
 
   -- the marker, looked for through the transform t
-  abbrev pub markerBy : Transform → ℕ → Marker
-  markerBy t v = (locate_of bits w h t v mean).marker
+  abbrev pub marker_by : Transform → ℕ → Marker
+  marker_by t v = (locate_of bits w h t v mean).marker
 
   -- of a triple with the score s
   module _ (s : Float) where
     -- the detection, its transform and its marker refined once from the transform t, with the score and the mean module
-    abbrev pub refinedFrom : Transform → ℕ → Built
-    refinedFrom t v =
+    abbrev pub refined_from : Transform → ℕ → Built
+    refined_from t v =
         let r = refine_of bits w h c v t mean in
         record { found = true; detection = record { finders = c; marker = r.marker; version = record { 0 = v }; transform = r.transform; score = s; mean = mean } }
 
     -- for version v: a rough transform through the finders alone, the marker by it, and the transform through both
-    unfoldable pub buildWith : ℕ → Built
-    buildWith v =
-        let rough = fitWith Missing v in
-        let fit = fitWith (markerBy rough.transform v) v in
-        cond rough.found (cond fit.found (refinedFrom fit.transform v) none) none
+    unfoldable pub build_with : ℕ → Built
+    build_with v =
+        let rough = fit_with Missing v in
+        let fit = fit_with (marker_by rough.transform v) v in
+        cond rough.found (cond fit.found (refined_from fit.transform v) none) none
 
     -- for the version that the finders imply, if they imply one
-    abbrev pub buildFor : Found → Built
-    buildFor Nothing = none
-    buildFor (Is v) = buildWith v.0
+    abbrev pub build_for : Found → Built
+    build_for Nothing = none
+    build_for (Is v) = build_with v.0
 
     -- `build_detection`
-    unfoldable pub buildOf : Built
-    buildOf = buildFor (estimate_of c)
+    unfoldable pub build_of : Built
+    build_of = build_for (estimate_of c)

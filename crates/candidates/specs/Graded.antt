@@ -24,7 +24,7 @@ pub record Graded (fs : List Finder) (d : Detection) : Type 0 where
   pub of_triple : Some (λ (t : Triple). (d.finders ≡ corners_of fs t) × (d.score ≡ t.score)) (ranked fs)
   pub number : is_number d.score ≡ true
   pub given_back : d.score ≡ corner_score d.finders
-  pub mean_module_lem : d.mean ≡ mean_of d.finders.tl d.finders.tr d.finders.bl
+  pub mean_module : d.mean ≡ mean_of d.finders.tl d.finders.tr d.finders.bl
 
 -- a table of detections of the finders fs: each is graded, their scores never fall from one to a later one, and beyond the count both numbers are 0
 pub record AllGraded (fs : List Finder) (t : Detections) : Type 0 where

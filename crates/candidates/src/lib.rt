@@ -1,8 +1,10 @@
 // The detections of a picture: of the ranked triples of its finders, those that can be built.
+#![tactic(auto)]
+
 ghost use Rattle.std.specs.Prelude.{◌≡◌, List, [], ◌++◌, ◌<◌};
 ghost use Rattle.ranking.specs.Ranking.{in_use, eight_of};
-ghost use Rattle.finders.specs.Answer.{table_of as findersTable};
-ghost use Rattle.candidates.specs.Detection.{none, buildWith, buildOf, zero_detection};
+ghost use Rattle.finders.specs.Answer.{table_of as finders_table};
+ghost use Rattle.candidates.specs.Detection.{none, build_with, build_of, zero_detection};
 ghost use Rattle.candidates.specs.Passing.{Within};
 ghost use Rattle.candidates.specs.Candidates.{corners_of, kept, detections_of, table_of, answered, from_answer, detect_answer, detect_first};
 
@@ -14,7 +16,7 @@ use transform::Transform;
 
 // A detected symbol: its finders, the centre of its alignment marker where one was found, its version, the transform from modules to pixels, the score of its
 // triple and the mean module of its finders.
-#[derive(Drop)]
+#[derive(Clone, Copy)]
 pub struct Detection {
     pub finders: Corners,
     pub marker: Marker,
@@ -25,28 +27,28 @@ pub struct Detection {
 }
 
 // A detection, or none, and then zeros.
-#[derive(Drop)]
+#[derive(Clone, Copy)]
 pub struct Built {
     pub found: bool,
     pub detection: Detection,
 }
 
 // At most three detections; places from count on are zero.
-#[derive(Drop)]
+#[derive(Clone, Copy)]
 pub struct Detections {
     pub count: usize,
     pub at: [Detection; 3],
 }
 
 // A refusal number, 0 if there is none, and the detections, none after a refusal.
-#[derive(Drop)]
+#[derive(Clone, Copy)]
 pub struct Answer {
     pub refusal: u8,
     pub detections: Detections,
 }
 
 // A refusal number, and the first detection, if there is one.
-#[derive(Drop)]
+#[derive(Clone, Copy)]
 pub struct First {
     pub refusal: u8,
     pub found: bool,
@@ -84,7 +86,7 @@ fn nothing_built() -> Built
 
 // The detection of three ordered finders with a triple's score for a version, or none.
 fn build_with(bits: &[u8], width: u32, height: u32, c: Corners, score: f32, v: Version) -> Built
-    ensures { result ≡ buildWith bits.now width height c score v.0 }
+    ensures { result ≡ build_with bits.now width height c score v.0 }
 {
     let mean = geometry::score::mean_module(c.tl, c.tr, c.bl);
     // Predict the marker by the finders alone, then look for it there.
@@ -118,7 +120,7 @@ fn build_with(bits: &[u8], width: u32, height: u32, c: Corners, score: f32, v: V
 
 // The detection of three ordered finders with a triple's score, or none.
 fn build_detection(bits: &[u8], width: u32, height: u32, c: Corners, score: f32) -> Built
-    ensures { result ≡ buildOf bits.now width height c score }
+    ensures { result ≡ build_of bits.now width height c score }
 {
     match geometry::estimate_version(c) {
         Found::Is(v) => build_with(bits, width, height, c, score, v),
@@ -179,7 +181,9 @@ fn built_triples(bits: &[u8], width: u32, height: u32, t: Eight) -> Detections
     found
 }
 
-// The answer with a refusal number: the detections of a table's finders, or none where the number is not 0.
+// The answer with a refusal number: the detections of a table's finders, or none where the number is not 0. Not inlined, so that its locals add nothing to the
+// stack below the search.
+#[inline(never)]
 fn answer_with(bits: &[u8], width: u32, height: u32, n: u8, t: Eight) -> Answer
     ensures { result ≡ answered n (detections_of bits.now width height (in_use t)) }
 {
@@ -207,7 +211,7 @@ pub fn candidates_in(bits: &[u8], width: u32, height: u32, t: Eight) -> Answer
 
 // The first eight finders of a search.
 pub fn eight_in(t: Finders) -> Eight
-    ensures { (fs : List Finder) → t ≡ findersTable fs → result ≡ eight_of fs }
+    ensures { (fs : List Finder) → t ≡ finders_table fs → result ≡ eight_of fs }
 {
     let at = t.table;
     ranking::table_of(

@@ -8,32 +8,32 @@ use Rattle.lcr_core.proofs.Checks.{unless_done}
 use Rattle.candidates.specs.declared.Answer.{Answer}
 use Rattle.candidates.specs.declared.Detections.{Detections}
 use Rattle.candidates.specs.Candidates.{table_of, answered, detect_answer}
-use Rattle.candidates.proofs.Tails.{answer-tail}
+use Rattle.candidates.proofs.Tails.{answer_tail}
 use Rattle.finders.specs.Answer.{is_over}
 use Rattle.finders.specs.Search.{found}
 use Rattle.stages.specs.Stages.{stages_refusal}
-use Rattle.stages.specs.Pictures.{denoisedPicture, left_after}
+use Rattle.stages.specs.Pictures.{denoised_picture, left_after}
 use Rattle.stages.proofs.Theorems.{denoised_first}
 use Rattle.chain.specs.Chain.{chain_of, chain_answer}
-use Rattle.chain.proofs.Theorems.{six-is-left}
+use Rattle.chain.proofs.Theorems.{six_is_left}
 
 -- where the stages refuse with m, and where they don't
 module _ (m : ℕ) (p : List ℕ) (w h s f : ℕ) where
-  pub chain-refused : (n : ℕ) (d : Detections) → n ≡ m → (n ≡ 0 → ⊥) → d ≡ table_of [] → record { refusal = n; detections = d } ≡ chain_answer m p w h s f
+  pub chain_refused : (n : ℕ) (d : Detections) → n ≡ m → (n ≡ 0 → ⊥) → d ≡ table_of [] → record { refusal = n; detections = d } ≡ chain_answer m p w h s f
   unfolding chain_answer
-  chain-refused n d e z g = go m e
+  chain_refused n d e z g = go m e
     where
       go : (m : ℕ) → n ≡ m → record { refusal = n; detections = d } ≡ unless m (answered m []) (chain_of p w h s f)
       go zero e = absurd (z e)
       go (suc k) e = rw (e, g)
 
-  pub chain-done : (r : Answer) → m ≡ 0 → r ≡ chain_of p w h s f → r ≡ chain_answer m p w h s f
+  pub chain_done : (r : Answer) → m ≡ 0 → r ≡ chain_of p w h s f → r ≡ chain_answer m p w h s f
   unfolding chain_answer
-  chain-done r e g = g ∙ unless_done m (answered m []) (chain_of p w h s f) e
+  chain_done r e g = g ∙ unless_done m (answered m []) (chain_of p w h s f) e
 
-  pub chained : m ≡ 0 → (old done : List ℕ) → done ≡ left_after m (denoisedPicture p w h s f) old → (r : Answer) → r ≡ detect_answer done w h → r ≡ chain_of p w h s f
+  pub chained : m ≡ 0 → (old done : List ℕ) → done ≡ left_after m (denoised_picture p w h s f) old → (r : Answer) → r ≡ detect_answer done w h → r ≡ chain_of p w h s f
   unfolding chain_of
-  chained z old done e r a = a ∙ sym (answer-tail done w h) ∙ ap (λ (d : List ℕ). detect_answer d w h) (denoised_first m p w h s f z old done e)
+  chained z old done e r a = a ∙ sym (answer_tail done w h) ∙ ap (λ (d : List ℕ). detect_answer d w h) (denoised_first m p w h s f z old done e)
 
 -- ---- what is left of a slice, by the number that the chain answers where the stages give m
 pub left_as : (m n : ℕ) → n ≡ m → (x new old : List ℕ) → x ≡ left_after m new old → x ≡ left_after n new old
@@ -45,8 +45,8 @@ left_six true new old = refl
 left_six false new old = refl
 
 module _ (len w h s f gray bits denoised : ℕ) (work : List ℕ) (m : ℕ) (e : m ≡ stages_refusal len w h s f gray bits denoised work) where
-  pub left-done : (p : List ℕ) (r : Answer) → m ≡ 0 → r ≡ chain_of p w h s f → (x new old : List ℕ) → x ≡ left_after m new old → x ≡ left_after r.refusal new old
-  left-done p r z a x new old g =
-      let b = is_over (found (denoisedPicture p w h s f) w h) in
-      let t : r.refusal ≡ cond b 6 0 = ap (λ (r : Answer). r.refusal) a ∙ six-is-left p w h s f len gray bits denoised work (sym e ∙ z) in
+  pub left_done : (p : List ℕ) (r : Answer) → m ≡ 0 → r ≡ chain_of p w h s f → (x new old : List ℕ) → x ≡ left_after m new old → x ≡ left_after r.refusal new old
+  left_done p r z a x new old g =
+      let b = is_over (found (denoised_picture p w h s f) w h) in
+      let t : r.refusal ≡ cond b 6 0 = ap (λ (r : Answer). r.refusal) a ∙ six_is_left p w h s f len gray bits denoised work (sym e ∙ z) in
       g ∙ ap (λ (k : ℕ). left_after k new old) z ∙ left_six b new old ∙ ap (λ (k : ℕ). left_after k new old) (sym t)

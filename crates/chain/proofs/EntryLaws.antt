@@ -17,48 +17,48 @@ use Rattle.candidates.specs.Candidates.{answered}
 use Rattle.firmware.specs.Firmware.{firmware_bytes, firmware_size}
 use Rattle.stages.specs.Stages.{stages_refusal}
 use Rattle.stages.specs.Pictures.{left_after}
-use Rattle.stages.proofs.Closed.{at-most-five, left_old}
+use Rattle.stages.proofs.Closed.{at_most_five, left_old}
 use Rattle.chain.specs.Chain.{chain_of, chain_answer, entry_refusal, detections_after}
-use Rattle.chain.proofs.Theorems.{detection-bytes}
+use Rattle.chain.proofs.Theorems.{detection_bytes_lem}
 
 -- ---- the check, where the stages give m and the detections are lent so many bytes
 module _ (m room : ℕ) where
-  pub stages-refuse : (n : ℕ) → n ≡ m → (n ≡ 0 → ⊥) → n ≡ entry_refusal m room
+  pub stages_refuse : (n : ℕ) → n ≡ m → (n ≡ 0 → ⊥) → n ≡ entry_refusal m room
   unfolding entry_refusal
-  stages-refuse n e z = go m e
+  stages_refuse n e z = go m e
     where
       go : (m : ℕ) → n ≡ m → n ≡ unless m m (cond (ltb room firmware_size) 5 0)
       go zero e = absurd (z e)
       go (suc k) e = e
 
-  pub room-short : m ≡ 0 → room < firmware_size → 5 ≡ entry_refusal m room
+  pub room_short : m ≡ 0 → room < firmware_size → 5 ≡ entry_refusal m room
   unfolding entry_refusal
-  room-short e l = rw (e, lt-ltb room firmware_size l)
+  room_short e l = rw (e, lt-ltb room firmware_size l)
 
-  pub room-enough : m ≡ 0 → firmware_size ≤ room → 0 ≡ entry_refusal m room
+  pub room_enough : m ≡ 0 → firmware_size ≤ room → 0 ≡ entry_refusal m room
   unfolding entry_refusal
-  room-enough e l = rw (e, le-ltb room firmware_size l)
+  room_enough e l = rw (e, le-ltb room firmware_size l)
 
-  pub both-pass : entry_refusal m room ≡ 0 → m ≡ 0
+  pub both_pass : entry_refusal m room ≡ 0 → m ≡ 0
   unfolding entry_refusal
-  both-pass e = go m e
+  both_pass e = go m e
     where
       go : (m : ℕ) → unless m m (cond (ltb room firmware_size) 5 0) ≡ 0 → m ≡ 0
       go zero e = refl
       go (suc k) e = e
 
-  pub five-at-most : m ≤ 5 → entry_refusal m room ≤ 5
+  pub five_at_most : m ≤ 5 → entry_refusal m room ≤ 5
   unfolding entry_refusal
-  five-at-most l = go m l (ltb room firmware_size)
+  five_at_most l = go m l (ltb room firmware_size)
     where
       go : (m : ℕ) → m ≤ 5 → (b : Bool) → unless m m (cond b 5 0) ≤ 5
       go zero l true = omega arith
       go zero l false = omega arith
       go (suc k) l b = l
 
-  pub room-left : entry_refusal m room ≡ 0 → firmware_size ≤ room
+  pub room_left : entry_refusal m room ≡ 0 → firmware_size ≤ room
   unfolding entry_refusal
-  room-left e = go m e
+  room_left e = go m e
     where
       go : (m : ℕ) → unless m m (cond (ltb room firmware_size) 5 0) ≡ 0 → firmware_size ≤ room
       go zero e = ltb-false room firmware_size (first_passes (ltb room firmware_size) 4 0 e).0
@@ -79,13 +79,13 @@ module _ (len w h s f gray bits denoised : ℕ) (work : List ℕ) (room n : ℕ)
       go (suc k) q = refl
 
   pub untouched : (n ≡ 0 → ⊥) → (new old : List ℕ) → old ≡ left_after n new old
-  untouched z = left_old n z (rw e (five-at-most m room (at-most-five len w h s f gray bits denoised work)))
+  untouched z = left_old n z (rw e (five_at_most m room (at_most_five len w h s f gray bits denoised work)))
 
   -- it passes, and a is the chain's answer
   module _ (z : n ≡ 0) (p : List ℕ) (a : Answer) (g : a ≡ chain_answer m p w h s f) where
-    pub entry-passed : a.refusal ≡ (chain_answer (entry_refusal m room) p w h s f).refusal
-    entry-passed =
-        let q : m ≡ entry_refusal m room = both-pass m room (sym e ∙ z) ∙ sym (sym e ∙ z) in
+    pub entry_passed : a.refusal ≡ (chain_answer (entry_refusal m room) p w h s f).refusal
+    entry_passed =
+        let q : m ≡ entry_refusal m room = both_pass m room (sym e ∙ z) ∙ sym (sym e ∙ z) in
         ap (λ (a : Answer). a.refusal) (g ∙ ap (λ (k : ℕ). chain_answer k p w h s f) q)
 
     -- the detections, where the chain refuses nothing
@@ -93,6 +93,6 @@ module _ (len w h s f gray bits denoised : ℕ) (work : List ℕ) (room n : ℕ)
     unfolding chain_answer
     entry_found t x old r q =
         let bytes = firmware_bytes (chain_of p w h s f).detections in
-        let d : a ≡ chain_of p w h s f = g ∙ sym (unless_done m (answered m []) (chain_of p w h s f) (both-pass m room (sym e ∙ z))) in
-        let l : length bytes ≤ length old = omega (arith, room-left m room (sym e ∙ z), detection-bytes p w h s f) in
+        let d : a ≡ chain_of p w h s f = g ∙ sym (unless_done m (answered m []) (chain_of p w h s f) (both_pass m room (sym e ∙ z))) in
+        let l : length bytes ≤ length old = omega (arith, room_left m room (sym e ∙ z), detection_bytes_lem p w h s f) in
         q ∙ ap (λ (a : Answer). put (firmware_bytes a.detections) 0 old) d ∙ put_front bytes old l ∙ unless_done a.refusal old (written bytes old) t

@@ -23,40 +23,40 @@ use Rattle.candidates.specs.Graded.{AllGraded}
 use Rattle.candidates.specs.Published.{published_detect}
 use Rattle.candidates.proofs.Grades.{none_graded, detect_graded}
 use Rattle.candidates.proofs.Lenses.{none-plain, detect_plain}
-use Rattle.candidates.proofs.Published.{uncut-detect}
+use Rattle.candidates.proofs.Published.{uncut_detect}
 use Rattle.firmware.specs.Firmware.{firmware_bytes, firmware_size}
 use Rattle.firmware.proofs.Theorems.{answer_bytes}
 use Rattle.stages.specs.Stages.{stages_refusal}
-use Rattle.stages.specs.Pictures.{denoisedPicture}
-use Rattle.stages.proofs.Theorems.{length-denoised}
+use Rattle.stages.specs.Pictures.{denoised_picture}
+use Rattle.stages.proofs.Theorems.{length_denoised}
 use Rattle.chain.specs.Chain.{chain_of, chain_answer}
 
 module _ (p : List ℕ) (w h s f : ℕ) where
-  pub six-is-left : (len gray bits denoised : ℕ) (work : List ℕ) → stages_refusal len w h s f gray bits denoised work ≡ 0
-      → (chain_of p w h s f).refusal ≡ cond (is_over (found (denoisedPicture p w h s f) w h)) 6 0
+  pub six_is_left : (len gray bits denoised : ℕ) (work : List ℕ) → stages_refusal len w h s f gray bits denoised work ≡ 0
+      → (chain_of p w h s f).refusal ≡ cond (is_over (found (denoised_picture p w h s f) w h)) 6 0
   unfolding chain_of detect_answer stages_refusal find_refusal short_bits
-  six-is-left len gray bits denoised work e =
+  six_is_left len gray bits denoised work e =
       let p1 = first_passes (zero_side w h) 0 _ e in
       let p2 = first_passes (large_side w h) 1 _ p1.1 in
-      let k : ltb (length (denoisedPicture p w h s f)) (bytes_of (w * h)) ≡ false = le-ltb (length (denoisedPicture p w h s f)) (bytes_of (w * h)) (omega (arith, length-denoised p w h s f)) in
+      let k : ltb (length (denoised_picture p w h s f)) (bytes_of (w * h)) ≡ false = le-ltb (length (denoised_picture p w h s f)) (bytes_of (w * h)) (omega (arith, length_denoised p w h s f)) in
       simp (p1.0, p2.0, k)
 
-  pub detection-bytes : length (firmware_bytes (chain_of p w h s f).detections) ≡ firmware_size
+  pub detection_bytes_lem : length (firmware_bytes (chain_of p w h s f).detections) ≡ firmware_size
   unfolding chain_of
-  detection-bytes = answer_bytes (denoisedPicture p w h s f) w h
+  detection_bytes_lem = answer_bytes (denoised_picture p w h s f) w h
 
-  pub uncut-chain : NoneCut (denoisedPicture p w h s f) w h → chain_of p w h s f ≡ published_detect (denoisedPicture p w h s f) w h
+  pub uncut_chain : NoneCut (denoised_picture p w h s f) w h → chain_of p w h s f ≡ published_detect (denoised_picture p w h s f) w h
   unfolding chain_of
-  uncut-chain u = uncut-detect (denoisedPicture p w h s f) w h u
+  uncut_chain u = uncut_detect (denoised_picture p w h s f) w h u
 
   -- of `chain` and `plate_chain`, whatever n they refuse before a byte is written
-  pub chain-graded : (n : ℕ) → AllGraded (finders_of (denoisedPicture p w h s f) w h) (chain_answer n p w h s f).detections
+  pub chain_graded : (n : ℕ) → AllGraded (finders_of (denoised_picture p w h s f) w h) (chain_answer n p w h s f).detections
   unfolding chain_answer chain_of
-  chain-graded zero = detect_graded (denoisedPicture p w h s f) w h
-  chain-graded (suc n) = none_graded (finders_of (denoisedPicture p w h s f) w h)
+  chain_graded zero = detect_graded (denoised_picture p w h s f) w h
+  chain_graded (suc n) = none_graded (finders_of (denoised_picture p w h s f) w h)
 
   -- no detection of theirs has a lens (document 02, N12), so that the eight numbers of the firmware's bytes and of the listing say all
-  pub chain-plain : (n : ℕ) → Each WithoutLens (chain_answer n p w h s f).detections.at
+  pub chain_plain : (n : ℕ) → Each WithoutLens (chain_answer n p w h s f).detections.at
   unfolding chain_answer chain_of
-  chain-plain zero = detect_plain (denoisedPicture p w h s f) w h
-  chain-plain (suc n) = none-plain
+  chain_plain zero = detect_plain (denoised_picture p w h s f) w h
+  chain_plain (suc n) = none-plain

@@ -9,12 +9,12 @@ use Rattle.candidates.specs.declared.Answer.{Answer}
 use Rattle.candidates.specs.Candidates.{answered, detect_answer}
 use Rattle.firmware.specs.Firmware.{firmware_bytes, firmware_size}
 use Rattle.stages.specs.Stages.{refusal_of}
-use Rattle.stages.specs.Pictures.{denoisedPicture}
+use Rattle.stages.specs.Pictures.{denoised_picture}
 
 -- what is answered for a picture p of w × h pixels in rows of s bytes with format byte f that the stages don't refuse: 0 and the detections in its
 -- denoised bits, or 6 (proofs/Theorems.antt: no other number)
 unfoldable pub chain_of : List ℕ → ℕ → ℕ → ℕ → ℕ → Answer
-chain_of p w h s f = detect_answer (denoisedPicture p w h s f) w h
+chain_of p w h s f = detect_answer (denoised_picture p w h s f) w h
 
 -- the same where n is refused before a byte is written, 0 if nothing is: that refusal, 1 to 5, comes first
 unfoldable pub chain_answer : ℕ → List ℕ → ℕ → ℕ → ℕ → ℕ → Answer

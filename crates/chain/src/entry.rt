@@ -1,8 +1,8 @@
-// The whole chain for the unit's firmware, which is C: numbers and byte slices only, and the refusal's number for an answer.
+// The whole chain for the unit's firmware, which is C: numbers and byte slices only, and the refusal's number for an answer. The crate chain_c exports it.
 ghost use Rattle.std.specs.Prelude.{◌≡◌, ◌∷◌, []};
 ghost use Rattle.lcr_core.specs.Outcome.{number_of};
 ghost use Rattle.stages.specs.Stages.{stages_refusal};
-ghost use Rattle.stages.specs.Pictures.{grayAfter, bitsAfter, denoisedAfter, meansAfter, leastAfter, greatestAfter, edgesAfter, nearsAfter};
+ghost use Rattle.stages.specs.Pictures.{gray_after, bits_after, denoised_after, means_after, least_after, greatest_after, edges_after, nears_after};
 ghost use Rattle.chain.specs.Chain.{entry_refusal, entry_answer, detections_after};
 
 use lcr_core::{Outcome, number};
@@ -41,8 +41,7 @@ fn check_entry(
 
 // The chain, and its detections as bytes in `detections`. Refusals 1 to 5 come before a byte is written; after 6, too many finders, all but `detections`
 // is as after 0.
-#[unsafe(no_mangle)]
-pub extern "C" fn plate_chain(
+pub fn plate_chain(
     picture: &[u8],
     width: u32,
     height: u32,
@@ -60,14 +59,14 @@ pub extern "C" fn plate_chain(
 ) -> u8
     ensures refusal { result ≡ (entry_answer picture.now width height stride format gray.old bits.old denoised.old
         (means.old ∷ least.old ∷ greatest.old ∷ edges.old ∷ nears.old ∷ []) detections.old).refusal }
-    ensures gray { gray.new ≡ grayAfter result picture.now width height stride format gray.old }
-    ensures bits { bits.new ≡ bitsAfter result picture.now width height stride format bits.old }
-    ensures denoised { denoised.new ≡ denoisedAfter result picture.now width height stride format denoised.old }
-    ensures means { means.new ≡ meansAfter result picture.now width height stride format means.old }
-    ensures least { least.new ≡ leastAfter result picture.now width height stride format least.old }
-    ensures greatest { greatest.new ≡ greatestAfter result picture.now width height stride format greatest.old }
-    ensures edges { edges.new ≡ edgesAfter result picture.now width height stride format edges.old }
-    ensures nears { nears.new ≡ nearsAfter result picture.now width height stride format nears.old }
+    ensures gray { gray.new ≡ gray_after result picture.now width height stride format gray.old }
+    ensures bits { bits.new ≡ bits_after result picture.now width height stride format bits.old }
+    ensures denoised { denoised.new ≡ denoised_after result picture.now width height stride format denoised.old }
+    ensures means { means.new ≡ means_after result picture.now width height stride format means.old }
+    ensures least { least.new ≡ least_after result picture.now width height stride format least.old }
+    ensures greatest { greatest.new ≡ greatest_after result picture.now width height stride format greatest.old }
+    ensures edges { edges.new ≡ edges_after result picture.now width height stride format edges.old }
+    ensures nears { nears.new ≡ nears_after result picture.now width height stride format nears.old }
     ensures detections { detections.new ≡ detections_after result picture.now width height stride format detections.old }
 {
     let n = number(check_entry(

@@ -1,6 +1,8 @@
 // The whole chain in one call: the picture stages, then the detections of the denoised bits.
+#![tactic(auto)]
+
 ghost use Rattle.std.specs.Prelude.{◌≡◌, ◌∷◌, []};
-ghost use Rattle.stages.specs.Pictures.{grayAfter, bitsAfter, denoisedAfter, meansAfter, leastAfter, greatestAfter, edgesAfter, nearsAfter};
+ghost use Rattle.stages.specs.Pictures.{gray_after, bits_after, denoised_after, means_after, least_after, greatest_after, edges_after, nears_after};
 ghost use Rattle.chain.specs.Chain.{whole_answer};
 
 use candidates::Answer;
@@ -26,14 +28,14 @@ pub fn chain(
 ) -> Answer
     ensures answer { result ≡ whole_answer picture.now width height stride format gray.old bits.old denoised.old
         (means.old ∷ least.old ∷ greatest.old ∷ edges.old ∷ nears.old ∷ []) }
-    ensures gray { gray.new ≡ grayAfter result.refusal picture.now width height stride format gray.old }
-    ensures bits { bits.new ≡ bitsAfter result.refusal picture.now width height stride format bits.old }
-    ensures denoised { denoised.new ≡ denoisedAfter result.refusal picture.now width height stride format denoised.old }
-    ensures means { means.new ≡ meansAfter result.refusal picture.now width height stride format means.old }
-    ensures least { least.new ≡ leastAfter result.refusal picture.now width height stride format least.old }
-    ensures greatest { greatest.new ≡ greatestAfter result.refusal picture.now width height stride format greatest.old }
-    ensures edges { edges.new ≡ edgesAfter result.refusal picture.now width height stride format edges.old }
-    ensures nears { nears.new ≡ nearsAfter result.refusal picture.now width height stride format nears.old }
+    ensures gray { gray.new ≡ gray_after result.refusal picture.now width height stride format gray.old }
+    ensures bits { bits.new ≡ bits_after result.refusal picture.now width height stride format bits.old }
+    ensures denoised { denoised.new ≡ denoised_after result.refusal picture.now width height stride format denoised.old }
+    ensures means { means.new ≡ means_after result.refusal picture.now width height stride format means.old }
+    ensures least { least.new ≡ least_after result.refusal picture.now width height stride format least.old }
+    ensures greatest { greatest.new ≡ greatest_after result.refusal picture.now width height stride format greatest.old }
+    ensures edges { edges.new ≡ edges_after result.refusal picture.now width height stride format edges.old }
+    ensures nears { nears.new ≡ nears_after result.refusal picture.now width height stride format nears.old }
 {
     let n = lcr_core::number(stages::stages(
         picture, width, height, stride, format, gray, bits, denoised, means, least, greatest,

@@ -9,13 +9,13 @@ use lib.Ieee.{Float, to_unsigned}
 use Rattle.binary.specs.Binary.{dark_at}
 use Rattle.binary.specs.Line.{row, column, run, run_back, run_before, run_after, end_before, end_after}
 use Rattle.binary.specs.declared.line.End.TheVariants.{Change, Edge, Limit}
-use Rattle.binary.proofs.Ends.{end_of, before-end, after-end}
+use Rattle.binary.proofs.Ends.{end_of, before_end, after_end}
 use Rattle.confirm.specs.declared.Centre.{Centre}
 use Rattle.confirm.specs.declared.Centre.TheVariants.{At, Nowhere}
 use Rattle.confirm.specs.declared.Confirmed.{Confirmed}
 use Rattle.confirm.specs.declared.Confirmed.TheVariants.{Point, Nothing}
-use Rattle.confirm.specs.Confirm.{limit_of, is_cut, side_before, side_after, any_cut, counted_of, core_of, and_then, verticalBy, horizontalBy, row_by, columnBy, confirmedBy, confirmed_on}
-use Rattle.confirm.specs.Published.{counted_on, of_centre, cutDown, cutAcross, rowCut, columnCut, cutOn}
+use Rattle.confirm.specs.Confirm.{limit_of, is_cut, side_before, side_after, any_cut, counted_of, core_of, and_then, vertical_by, horizontal_by, row_by, column_by, confirmed_by, confirmed_on}
+use Rattle.confirm.specs.Published.{counted_on, of_centre, cut_down, cut_across, row_cut, column_cut, cut_on}
 
 -- one confirmation: about a dark pixel (d), with a run that was cut (c), by document 000 at k
 by_one : (d c : Bool) (k : Centre) (next : Float → Confirmed) → and_then (cond d (cond c Nowhere k) Nowhere) next ≡ cond c Nothing (and_then (cond d k Nowhere) next)
@@ -35,26 +35,26 @@ by_two false true k d' c' k' next = refl
 by_two false false k d' c' k' next = refl
 
 module _ (bits : List ℕ) (w h : ℕ) where
-  row-dropped : (y : ℕ) (centre m : Float) → row_by core_of bits w h y centre m ≡ cond (rowCut bits w h y centre m) Nothing (row_by counted_of bits w h y centre m)
-  unfolding row_by verticalBy horizontalBy core_of rowCut
-  row-dropped y centre m =
+  row_dropped : (y : ℕ) (centre m : Float) → row_by core_of bits w h y centre m ≡ cond (row_cut bits w h y centre m) Nothing (row_by counted_of bits w h y centre m)
+  unfolding row_by vertical_by horizontal_by core_of row_cut
+  row_dropped y centre m =
       let x = to_unsigned 32 centre in
-      by_two (dark_at bits w h x y) (cutDown bits w h x y m) (counted_of (column bits w x) h y (limit_of m)) (λ v. dark_at bits w h x (to_unsigned 32 v)) (λ v. cutAcross bits w h x (to_unsigned 32 v) m)
+      by_two (dark_at bits w h x y) (cut_down bits w h x y m) (counted_of (column bits w x) h y (limit_of m)) (λ v. dark_at bits w h x (to_unsigned 32 v)) (λ v. cut_across bits w h x (to_unsigned 32 v) m)
       (λ v. counted_of (row bits w (to_unsigned 32 v)) w x (limit_of m)) (λ cy cx. Point cx cy)
 
-  column-dropped : (x : ℕ) (centre m : Float) → columnBy core_of bits w h x centre m ≡ cond (columnCut bits w h x centre m) Nothing (columnBy counted_of bits w h x centre m)
-  unfolding columnBy verticalBy horizontalBy core_of columnCut
-  column-dropped x centre m =
+  column_dropped : (x : ℕ) (centre m : Float) → column_by core_of bits w h x centre m ≡ cond (column_cut bits w h x centre m) Nothing (column_by counted_of bits w h x centre m)
+  unfolding column_by vertical_by horizontal_by core_of column_cut
+  column_dropped x centre m =
       let y = to_unsigned 32 centre in
-      by_two (dark_at bits w h x y) (cutAcross bits w h x y m) (counted_of (row bits w y) w x (limit_of m)) (λ v. dark_at bits w h (to_unsigned 32 v) y) (λ v. cutDown bits w h (to_unsigned 32 v) y m)
+      by_two (dark_at bits w h x y) (cut_across bits w h x y m) (counted_of (row bits w y) w x (limit_of m)) (λ v. dark_at bits w h (to_unsigned 32 v) y) (λ v. cut_down bits w h (to_unsigned 32 v) y m)
       (λ v. counted_of (column bits w (to_unsigned 32 v)) h y (limit_of m)) (λ cx cy. Point cx cy)
 
   -- on row n, or on column n
-  pub cut-dropped : (columns : Bool) (n : ℕ) (centre m : Float)
-      → confirmed_on bits w h columns n centre m ≡ cond (cutOn bits w h columns n centre m) Nothing (counted_on bits w h columns n centre m)
-  unfolding confirmedBy cutOn
-  cut-dropped true n centre m = column-dropped n centre m
-  cut-dropped false n centre m = row-dropped n centre m
+  pub cut_dropped : (columns : Bool) (n : ℕ) (centre m : Float)
+      → confirmed_on bits w h columns n centre m ≡ cond (cut_on bits w h columns n centre m) Nothing (counted_on bits w h columns n centre m)
+  unfolding confirmed_by cut_on
+  cut_dropped true n centre m = column_dropped n centre m
+  cut_dropped false n centre m = row_dropped n centre m
 
 -- ---- the six runs
 -- cut: longer than the limit, were there none
@@ -68,27 +68,27 @@ cut_longer limit left full = go (ltb limit full) (eqb full left)
 
 module _ (f : ℕ → Bool) (len i limit : ℕ) where
   -- the whole run of a colour before pixel j, and from pixel j on, is over the limit
-  abbrev pub longBefore : Bool → ℕ → Bool
-  longBefore colour j = ltb limit (run_back colour f j j)
+  abbrev pub long_before : Bool → ℕ → Bool
+  long_before colour j = ltb limit (run_back colour f j j)
 
-  abbrev pub longAfter : Bool → ℕ → Bool
-  longAfter colour j = ltb limit (run colour f j (len - j))
+  abbrev pub long_after : Bool → ℕ → Bool
+  long_after colour j = ltb limit (run colour f j (len - j))
 
-  before-cut : (colour : Bool) (j : ℕ) → is_cut (end_before colour f limit j) ≡ longBefore colour j
-  before-cut colour j = ap is_cut (before-end colour f limit j) ∙ cut_longer limit j (run_back colour f j j)
+  before_cut : (colour : Bool) (j : ℕ) → is_cut (end_before colour f limit j) ≡ long_before colour j
+  before_cut colour j = ap is_cut (before_end colour f limit j) ∙ cut_longer limit j (run_back colour f j j)
 
-  after-cut : (colour : Bool) (j : ℕ) → is_cut (end_after colour f len limit j) ≡ longAfter colour j
-  after-cut colour j = ap is_cut (after-end colour f len limit j) ∙ cut_longer limit (len - j) (run colour f j (len - j))
+  after_cut : (colour : Bool) (j : ℕ) → is_cut (end_after colour f len limit j) ≡ long_after colour j
+  after_cut colour j = ap is_cut (after_end colour f len limit j) ∙ cut_longer limit (len - j) (run colour f j (len - j))
 
   -- the core's, and on either side the light one and the dark one beyond it
-  pub any-longer : any_cut f len i limit
+  pub any_longer : any_cut f len i limit
       ≡ (let top = i - run_before true f limit i in
       let end = i + 1 + run_after true f len limit (i + 1) in
-      longBefore true i || longAfter true (i + 1)
-      || (longBefore false top || longBefore true (top - run_before false f limit top))
-      || (longAfter false end || longAfter true (end + run_after false f len limit end)))
+      long_before true i || long_after true (i + 1)
+      || (long_before false top || long_before true (top - run_before false f limit top))
+      || (long_after false end || long_after true (end + run_after false f len limit end)))
   unfolding any_cut side_before side_after
-  any-longer =
+  any_longer =
       let top = i - run_before true f limit i in
       let end = i + 1 + run_after true f len limit (i + 1) in
-      rw (before-cut true i, after-cut true (i + 1), before-cut false top, before-cut true (top - run_before false f limit top), after-cut false end, after-cut true (end + run_after false f len limit end))
+      rw (before_cut true i, after_cut true (i + 1), before_cut false top, before_cut true (top - run_before false f limit top), after_cut false end, after_cut true (end + run_after false f len limit end))

@@ -80,40 +80,40 @@ and_then Nowhere next = Nothing
 -- a confirmation by a rule
 module _ (rule : Rule) (bits : List ℕ) (width height : ℕ) where
   -- down column x about row y, and across row y about column x
-  unfoldable pub verticalBy : ℕ → ℕ → Float → Centre
-  verticalBy x y m = cond (dark_at bits width height x y) (rule (column bits width x) height y (limit_of m)) Nowhere
+  unfoldable pub vertical_by : ℕ → ℕ → Float → Centre
+  vertical_by x y m = cond (dark_at bits width height x y) (rule (column bits width x) height y (limit_of m)) Nowhere
 
-  unfoldable pub horizontalBy : ℕ → ℕ → Float → Centre
-  horizontalBy x y m = cond (dark_at bits width height x y) (rule (row bits width y) width x (limit_of m)) Nowhere
+  unfoldable pub horizontal_by : ℕ → ℕ → Float → Centre
+  horizontal_by x y m = cond (dark_at bits width height x y) (rule (row bits width y) width x (limit_of m)) Nowhere
 
   -- a hit with its centre at x on row y is confirmed down, then across
   unfoldable pub row_by : ℕ → Float → Float → Confirmed
   row_by y centre m =
       let x = to_unsigned 32 centre in
-      and_then (verticalBy x y m) (λ cy. and_then (horizontalBy x (to_unsigned 32 cy) m) (λ cx. Point cx cy))
+      and_then (vertical_by x y m) (λ cy. and_then (horizontal_by x (to_unsigned 32 cy) m) (λ cx. Point cx cy))
 
   -- a hit with its centre at y on column x is confirmed across, then down
-  unfoldable pub columnBy : ℕ → Float → Float → Confirmed
-  columnBy x centre m =
+  unfoldable pub column_by : ℕ → Float → Float → Confirmed
+  column_by x centre m =
       let y = to_unsigned 32 centre in
-      and_then (horizontalBy x y m) (λ cx. and_then (verticalBy (to_unsigned 32 cx) y m) (λ cy. Point cx cy))
+      and_then (horizontal_by x y m) (λ cx. and_then (vertical_by (to_unsigned 32 cx) y m) (λ cy. Point cx cy))
 
   -- on row n, or on column n
-  unfoldable pub confirmedBy : Bool → ℕ → Float → Float → Confirmed
-  confirmedBy columns n centre m = cond columns (columnBy n centre m) (row_by n centre m)
+  unfoldable pub confirmed_by : Bool → ℕ → Float → Float → Confirmed
+  confirmed_by columns n centre m = cond columns (column_by n centre m) (row_by n centre m)
 
 -- by the amended rule, which the detector has
 abbrev pub confirm_vertical : List ℕ → ℕ → ℕ → ℕ → ℕ → Float → Centre
-confirm_vertical = verticalBy core_of
+confirm_vertical = vertical_by core_of
 
 abbrev pub confirm_horizontal : List ℕ → ℕ → ℕ → ℕ → ℕ → Float → Centre
-confirm_horizontal = horizontalBy core_of
+confirm_horizontal = horizontal_by core_of
 
 abbrev pub row_confirmed : List ℕ → ℕ → ℕ → ℕ → Float → Float → Confirmed
 row_confirmed = row_by core_of
 
 abbrev pub column_confirmed : List ℕ → ℕ → ℕ → ℕ → Float → Float → Confirmed
-column_confirmed = columnBy core_of
+column_confirmed = column_by core_of
 
 abbrev pub confirmed_on : List ℕ → ℕ → ℕ → Bool → ℕ → Float → Float → Confirmed
-confirmed_on = confirmedBy core_of
+confirmed_on = confirmed_by core_of

@@ -6,11 +6,11 @@ use Rattle.binary.specs.Line.{row, column}
 use Rattle.confirm.specs.declared.Centre.{Centre}
 use Rattle.confirm.specs.declared.Centre.TheVariants.{At, Nowhere}
 use Rattle.confirm.specs.declared.Confirmed.{Confirmed}
-use Rattle.confirm.specs.Confirm.{limit_of, counted_of, any_cut, verticalBy, horizontalBy, confirmedBy}
+use Rattle.confirm.specs.Confirm.{limit_of, counted_of, any_cut, vertical_by, horizontal_by, confirmed_by}
 
 -- a hit on row n, or on column n, is confirmed by document 000's rule
 abbrev pub counted_on : List ℕ → ℕ → ℕ → Bool → ℕ → Float → Float → Confirmed
-counted_on = confirmedBy counted_of
+counted_on = confirmed_by counted_of
 
 -- what is asked of a centre, where there is one
 abbrev pub of_centre : Centre → (Float → Bool) → Bool
@@ -19,24 +19,24 @@ of_centre Nowhere ask = false
 
 module _ (bits : List ℕ) (width height : ℕ) where
   -- whether the limit ended a run down column x about row y, and across row y about column x
-  abbrev pub cutDown : ℕ → ℕ → Float → Bool
-  cutDown x y m = any_cut (column bits width x) height y (limit_of m)
+  abbrev pub cut_down : ℕ → ℕ → Float → Bool
+  cut_down x y m = any_cut (column bits width x) height y (limit_of m)
 
-  abbrev pub cutAcross : ℕ → ℕ → Float → Bool
-  cutAcross x y m = any_cut (row bits width y) width x (limit_of m)
+  abbrev pub cut_across : ℕ → ℕ → Float → Bool
+  cut_across x y m = any_cut (row bits width y) width x (limit_of m)
 
   -- in either confirmation of a hit with its centre at x on row y, of which the second goes through the centre that the first one gives
-  unfoldable pub rowCut : ℕ → Float → Float → Bool
-  rowCut y centre m =
+  unfoldable pub row_cut : ℕ → Float → Float → Bool
+  row_cut y centre m =
       let x = to_unsigned 32 centre in
-      cutDown x y m || of_centre (verticalBy counted_of bits width height x y m) (λ cy. cutAcross x (to_unsigned 32 cy) m)
+      cut_down x y m || of_centre (vertical_by counted_of bits width height x y m) (λ cy. cut_across x (to_unsigned 32 cy) m)
 
   -- and of a hit with its centre at y on column x
-  unfoldable pub columnCut : ℕ → Float → Float → Bool
-  columnCut x centre m =
+  unfoldable pub column_cut : ℕ → Float → Float → Bool
+  column_cut x centre m =
       let y = to_unsigned 32 centre in
-      cutAcross x y m || of_centre (horizontalBy counted_of bits width height x y m) (λ cx. cutDown (to_unsigned 32 cx) y m)
+      cut_across x y m || of_centre (horizontal_by counted_of bits width height x y m) (λ cx. cut_down (to_unsigned 32 cx) y m)
 
   -- on row n, or on column n
-  unfoldable pub cutOn : Bool → ℕ → Float → Float → Bool
-  cutOn columns n centre m = cond columns (columnCut n centre m) (rowCut n centre m)
+  unfoldable pub cut_on : Bool → ℕ → Float → Float → Bool
+  cut_on columns n centre m = cond columns (column_cut n centre m) (row_cut n centre m)

@@ -1,4 +1,6 @@
 // A hit on a scanned line is confirmed on both axes: the runs about its place have to pass there too.
+#![tactic(auto)]
+
 ghost use Rattle.std.specs.Prelude.{◌≡◌, ◌+◌, ◌≤◌, ◌<◌};
 ghost use Rattle.binary.specs.Line.{pixel};
 ghost use Rattle.confirm.specs.Confirm.{limit_of, is_cut, side_of, side_before, side_after, centre_of, core_of, confirm_vertical, confirm_horizontal, row_confirmed, column_confirmed, confirmed_on};
@@ -7,21 +9,21 @@ use binary::line::{End, Run, limited_back, limited_on};
 use ratio::Match;
 
 // The centre of a core on a line.
-#[derive(Drop)]
+#[derive(Clone, Copy)]
 pub enum Centre {
     At(f32),
     Nowhere,
 }
 
 // The centre of a finder, x and y.
-#[derive(Drop)]
+#[derive(Clone, Copy)]
 pub enum Confirmed {
     Point(f32, f32),
     Nothing,
 }
 
 // The runs beyond a core on one side, and whether the limit ended one of them.
-#[derive(Drop)]
+#[derive(Clone, Copy)]
 pub struct Side {
     pub light: u16,
     pub dark: u16,

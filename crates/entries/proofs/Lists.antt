@@ -7,9 +7,9 @@ use Rattle.stored.specs.Stored.{write_refusal}
 use Rattle.entries.specs.Entries.{list_refusal}
 
 module _ (f g : Found) (w h len : ℕ) (e : f ≡ g) where
-  pub list-refused : (f.refusal ≡ 0 → ⊥) → f.refusal ≡ list_refusal g w h len
+  pub list_refused : (f.refusal ≡ 0 → ⊥) → f.refusal ≡ list_refusal g w h len
   unfolding list_refusal
-  list-refused n = rw (← e) (unless-refused f.refusal f.refusal (write_refusal f.finders w h len) n)
+  list_refused n = rw (← e) (unless-refused f.refusal f.refusal (write_refusal f.finders w h len) n)
 
   pub list_written : (r : ℕ) → f.refusal ≡ 0 → r ≡ write_refusal f.finders w h len → r ≡ list_refusal g w h len
   unfolding list_refusal

@@ -2,7 +2,7 @@
 use mathlib.Core.Path.{◌≡◌, refl, sym, ap, ◌∙◌}
 use mathlib.Core.Bool.{Bool, true, false, cond}
 use mathlib.Core.List.{List}
-use Prim.Native.Nat.{ℕ, zero, ◌≤◌, ◌<◌}
+use Prim.Native.Nat.{ℕ, ◌≤◌, ◌<◌}
 use native.Mathlib.Omega.{arith}
 use lib.Dec.{ltb}
 use lib.ListN.{length}
@@ -44,45 +44,45 @@ room_number room = cond (ltb room firmware_size) 5 0
 
 -- ---- the check, where the bits give m
 module _ (len w h room m : ℕ) (e : m ≡ bits_refusal len w h) where
-  after-bits : unless m m (room_number room) ≡ first_of (room_checks len w h room)
+  after_bits : unless m m (room_number room) ≡ first_of (room_checks len w h room)
   unfolding bits_refusal
-  after-bits = ap (λ (k : ℕ). unless k k (room_number room)) e ∙ three_then (zero_side w h) (large_side w h) (short_bits len w h) (room_number room)
+  after_bits = ap (λ (k : ℕ). unless k k (room_number room)) e ∙ three_then (zero_side w h) (large_side w h) (short_bits len w h) (room_number room)
 
-  pub bits-refuse : (m ≡ 0 → ⊥) → m ≡ first_of (room_checks len w h room)
-  bits-refuse z = unless-refused m m (room_number room) z ∙ after-bits
+  pub bits_refuse : (m ≡ 0 → ⊥) → m ≡ first_of (room_checks len w h room)
+  bits_refuse z = unless-refused m m (room_number room) z ∙ after_bits
 
-  pub room-short : m ≡ 0 → room < firmware_size → 5 ≡ first_of (room_checks len w h room)
-  room-short z l =
+  pub room_short : m ≡ 0 → room < firmware_size → 5 ≡ first_of (room_checks len w h room)
+  room_short z l =
       let t : ◌≡◌ {A = ℕ} 5 (room_number room) = rw (lt-ltb room firmware_size l) in
-      t ∙ unless_done m m (room_number room) z ∙ after-bits
+      t ∙ unless_done m m (room_number room) z ∙ after_bits
 
-  pub room-enough : m ≡ 0 → firmware_size ≤ room → 0 ≡ first_of (room_checks len w h room)
-  room-enough z l =
+  pub room_enough : m ≡ 0 → firmware_size ≤ room → 0 ≡ first_of (room_checks len w h room)
+  room_enough z l =
       let t : ◌≡◌ {A = ℕ} 0 (room_number room) = rw (le-ltb room firmware_size l) in
-      t ∙ unless_done m m (room_number room) z ∙ after-bits
+      t ∙ unless_done m m (room_number room) z ∙ after_bits
 
 -- ---- the entry, where its check gives n
 module _ (bits : List ℕ) (w h room n : ℕ) (e : n ≡ first_of (room_checks (length bits) w h room)) where
   -- it refuses
-  pub check-refused : (n ≡ 0 → ⊥) → n ≡ candidates_refusal bits w h room
+  pub check_refused : (n ≡ 0 → ⊥) → n ≡ candidates_refusal bits w h room
   unfolding candidates_refusal
-  check-refused z =
+  check_refused z =
       same_refusal n (first_of (room_checks (length bits) w h room)) (cond (is_over (found bits w h)) 6 0) e z
       ∙ four_then (zero_side w h) (large_side w h) (short_bits (length bits) w h) (ltb room firmware_size) (cond (is_over (found bits w h)) 6 0)
 
   -- it passes, and a is the answer
   module _ (z : n ≡ 0) (a : Answer) (g : a ≡ detect_answer bits w h) where
-    pub search-answered : a.refusal ≡ candidates_refusal bits w h room
+    pub search_answered : a.refusal ≡ candidates_refusal bits w h room
     unfolding candidates_refusal detect_answer find_refusal
-    search-answered =
+    search_answered =
         let p1 = first_passes (zero_side w h) 0 _ (sym e ∙ z) in
         let p2 = first_passes (large_side w h) 1 _ p1.1 in
         let p3 = first_passes (short_bits (length bits) w h) 3 _ p2.1 in
         let p4 = first_passes (ltb room firmware_size) 4 _ p3.1 in
         ap (λ (a : Answer). a.refusal) g ∙ simp (p1.0, p2.0, p3.0, p4.0)
 
-    room-left : firmware_size ≤ room
-    room-left =
+    room_left : firmware_size ≤ room
+    room_left =
         let p1 = first_passes (zero_side w h) 0 _ (sym e ∙ z) in
         let p2 = first_passes (large_side w h) 1 _ p1.1 in
         let p3 = first_passes (short_bits (length bits) w h) 3 _ p2.1 in
@@ -93,5 +93,5 @@ module _ (bits : List ℕ) (w h room n : ℕ) (e : n ≡ first_of (room_checks (
         → x ≡ unless a.refusal old (written (firmware_bytes (detect_answer bits w h).detections) old)
     found-written t x old r q =
         let bytes = firmware_bytes (detect_answer bits w h).detections in
-        let l : length bytes ≤ length old = omega (arith, room-left, answer_bytes bits w h) in
+        let l : length bytes ≤ length old = omega (arith, room_left, answer_bytes bits w h) in
         q ∙ ap (λ (a : Answer). put (firmware_bytes a.detections) 0 old) g ∙ put_front bytes old l ∙ unless_done a.refusal old (written bytes old) t

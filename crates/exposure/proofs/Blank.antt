@@ -12,10 +12,10 @@ use Rattle.binary.specs.Binary.{bit, dark_bit, dark_at}
 use Rattle.binary.specs.Line.{row, column}
 use Rattle.image.specs.Denoise.{inside, votes, denoised_at}
 use Rattle.confirm.specs.declared.Confirmed.TheVariants.{Nothing}
-use Rattle.confirm.specs.Confirm.{core_of, verticalBy, horizontalBy, row_by, columnBy, confirmedBy, confirmed_on}
+use Rattle.confirm.specs.Confirm.{core_of, vertical_by, horizontal_by, row_by, column_by, confirmed_by, confirmed_on}
 use Rattle.finders.specs.Held.{held}
 use Rattle.finders.specs.Hits.{Hit, line_hits}
-use Rattle.finders.specs.Search.{every_second, seen, rowSightingsBy, columnSightingsBy, sightingsBy, foundBy, sightings, found}
+use Rattle.finders.specs.Search.{every_second, seen, row_sightings_by, column_sightings_by, sightings_by, found_by, sightings, found}
 use Rattle.finders.specs.Rank as rank
 use Rattle.finders.specs.Answer.{finders_of}
 use Rattle.ranking.specs.Ranking.{enumerated, of_rank, best, ranked}
@@ -59,25 +59,25 @@ flat_map_nothing f h [] = refl
 flat_map_nothing f h (x ∷ xs) = rw (h x, flat_map_nothing f h xs)
 
 module _ (b : List ℕ) (w h : ℕ) (e : Each (λ v. v ≡ 0) b) where
-  not-confirmed : (columns : Bool) (n : ℕ) (centre m : Float) → confirmed_on b w h columns n centre m ≡ Nothing
-  unfolding confirmedBy row_by columnBy verticalBy horizontalBy
-  not-confirmed true n centre m = simp (light_pixel b w h e)
-  not-confirmed false n centre m = simp (light_pixel b w h e)
+  not_confirmed : (columns : Bool) (n : ℕ) (centre m : Float) → confirmed_on b w h columns n centre m ≡ Nothing
+  unfolding confirmed_by row_by column_by vertical_by horizontal_by
+  not_confirmed true n centre m = simp (light_pixel b w h e)
+  not_confirmed false n centre m = simp (light_pixel b w h e)
 
   not_seen : (columns : Bool) (n : ℕ) (t : Hit) → seen b w h columns n t ≡ []
-  not_seen columns n t = rw (not-confirmed columns n t.centre t.pitch)
+  not_seen columns n t = rw (not_confirmed columns n t.centre t.pitch)
 
-  no-sighting : sightings b w h ≡ []
-  unfolding sightingsBy
-  no-sighting =
-      let rows : every_second (rowSightingsBy core_of b w h) h ≡ [] = flat_map_nothing _ (λ k. flat_map_nothing (seen b w h false (2 * k)) (not_seen false (2 * k)) (line_hits (row b w (2 * k)) w)) _ in
-      let columns : every_second (columnSightingsBy core_of b w h) w ≡ [] = flat_map_nothing _ (λ k. flat_map_nothing (seen b w h true (2 * k)) (not_seen true (2 * k)) (line_hits (column b w (2 * k)) h)) _ in
+  no_sighting : sightings b w h ≡ []
+  unfolding sightings_by
+  no_sighting =
+      let rows : every_second (row_sightings_by core_of b w h) h ≡ [] = flat_map_nothing _ (λ k. flat_map_nothing (seen b w h false (2 * k)) (not_seen false (2 * k)) (line_hits (row b w (2 * k)) w)) _ in
+      let columns : every_second (column_sightings_by core_of b w h) w ≡ [] = flat_map_nothing _ (λ k. flat_map_nothing (seen b w h true (2 * k)) (not_seen true (2 * k)) (line_hits (column b w (2 * k)) h)) _ in
       rw (rows, columns)
 
   pub none_found : found b w h ≡ held []
-  unfolding foundBy folded
-  none_found = rw no-sighting
+  unfolding found_by folded
+  none_found = rw no_sighting
 
-  pub no-detection : detections_of b w h (finders_of b w h) ≡ []
+  pub no_detection : detections_of b w h (finders_of b w h) ≡ []
   unfolding detections_of rank.ranked ranked best of_rank enumerated those folded flat_map count
-  no-detection = rw none_found
+  no_detection = rw none_found

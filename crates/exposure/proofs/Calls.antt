@@ -6,24 +6,24 @@ use native.Mathlib.Omega.{arith}
 use lib.ListN.{length}
 use Rattle.candidates.specs.Candidates.{detect_answer}
 use Rattle.stages.specs.Stages.{stages_refusal, refusal_of}
-use Rattle.stages.specs.Pictures.{bitPicture, denoisedPicture}
+use Rattle.stages.specs.Pictures.{bit_picture, denoised_picture}
 use Rattle.chain.specs.Chain.{chain_of, entry_refusal}
-use Rattle.chain.proofs.EntryLaws.{both-pass}
-use Rattle.exposure.specs.Exposure.{gray8, fixOf, entryFixOf, SameFix}
-use Rattle.exposure.proofs.Fixes.{fix-written, fix-kept, entry-fix-written, entry-fix-kept}
+use Rattle.chain.proofs.EntryLaws.{both_pass}
+use Rattle.exposure.specs.Exposure.{gray8, fix_of, entry_fix_of, SameFix}
+use Rattle.exposure.proofs.Fixes.{fix_written, fix_kept, entry_fix_written, entry_fix_kept}
 
 module _ (p q : List ℕ) (w h s : ℕ) where
   abbrev SameBits : Type 0
-  SameBits = bitPicture q w h s gray8 ≡ bitPicture p w h s gray8
+  SameBits = bit_picture q w h s gray8 ≡ bit_picture p w h s gray8
 
   -- ---- from the bits on
-  pub denoised-same : SameBits → denoisedPicture q w h s gray8 ≡ denoisedPicture p w h s gray8
-  unfolding denoisedPicture
-  denoised-same e = rw e
+  pub denoised_same : SameBits → denoised_picture q w h s gray8 ≡ denoised_picture p w h s gray8
+  unfolding denoised_picture
+  denoised_same e = rw e
 
   pub chain_same : SameBits → chain_of q w h s gray8 ≡ chain_of p w h s gray8
   unfolding chain_of
-  chain_same e = ap (λ (d : List ℕ). detect_answer d w h) (denoised-same e)
+  chain_same e = ap (λ (d : List ℕ). detect_answer d w h) (denoised_same e)
 
   -- ---- the calls
   module _ (gray bits denoised : List ℕ) (work : List (List ℕ)) (detections : List ℕ) where
@@ -31,28 +31,28 @@ module _ (p q : List ℕ) (w h s : ℕ) where
     abbrev refused : List ℕ → ℕ
     refused x = refusal_of x w h s gray8 gray bits denoised work
 
-    abbrev entryRefused : List ℕ → ℕ
-    entryRefused x = entry_refusal (refused x) (length detections)
+    abbrev entry_refused : List ℕ → ℕ
+    entry_refused x = entry_refusal (refused x) (length detections)
 
     module _ (l : length q ≡ length p) (e : refused p ≡ 0 → SameBits) where
-      refused-same : refused q ≡ refused p
-      refused-same = ap (λ (len : ℕ). stages_refusal len w h s gray8 (length gray) (length bits) (length denoised) (map length work)) l
+      refused_same : refused q ≡ refused p
+      refused_same = ap (λ (len : ℕ). stages_refusal len w h s gray8 (length gray) (length bits) (length denoised) (map length work)) l
 
-      entry-refused-same : entryRefused q ≡ entryRefused p
-      entry-refused-same = ap (λ (n : ℕ). entry_refusal n (length detections)) refused-same
+      entry-refused_same : entry_refused q ≡ entry_refused p
+      entry-refused_same = ap (λ (n : ℕ). entry_refusal n (length detections)) refused_same
 
-      fixes : (n : ℕ) → refused p ≡ n → fixOf w h s gray bits denoised work q ≡ fixOf w h s gray bits denoised work p
+      fixes : (n : ℕ) → refused p ≡ n → fix_of w h s gray bits denoised work q ≡ fix_of w h s gray bits denoised work p
       fixes zero z =
-          rw (fix-written q w h s gray bits denoised work (refused-same ∙ z), fix-written p w h s gray bits denoised work z, chain_same (e z), denoised-same (e z), e z)
+          rw (fix_written q w h s gray bits denoised work (refused_same ∙ z), fix_written p w h s gray bits denoised work z, chain_same (e z), denoised_same (e z), e z)
       fixes (suc n) z =
-          rw (fix-kept q w h s gray bits denoised work (λ y. omega (arith, refused-same)), fix-kept p w h s gray bits denoised work (λ y. omega arith), refused-same)
+          rw (fix_kept q w h s gray bits denoised work (λ y. omega (arith, refused_same)), fix_kept p w h s gray bits denoised work (λ y. omega arith), refused_same)
 
-      entry-fixes : (n : ℕ) → entryRefused p ≡ n → entryFixOf w h s gray bits denoised work detections q ≡ entryFixOf w h s gray bits denoised work detections p
-      entry-fixes zero z =
-          let same = e (both-pass (refused p) (length detections) z) in
-          rw (entry-fix-written q w h s gray bits denoised work detections (entry-refused-same ∙ z), entry-fix-written p w h s gray bits denoised work detections z, chain_same same, denoised-same same, same)
-      entry-fixes (suc n) z =
-          rw (entry-fix-kept q w h s gray bits denoised work detections (λ y. omega (arith, entry-refused-same)), entry-fix-kept p w h s gray bits denoised work detections (λ y. omega arith), refused-same)
+      entry_fixes : (n : ℕ) → entry_refused p ≡ n → entry_fix_of w h s gray bits denoised work detections q ≡ entry_fix_of w h s gray bits denoised work detections p
+      entry_fixes zero z =
+          let same = e (both_pass (refused p) (length detections) z) in
+          rw (entry_fix_written q w h s gray bits denoised work detections (entry-refused_same ∙ z), entry_fix_written p w h s gray bits denoised work detections z, chain_same same, denoised_same same, same)
+      entry_fixes (suc n) z =
+          rw (entry_fix_kept q w h s gray bits denoised work detections (λ y. omega (arith, entry-refused_same)), entry_fix_kept p w h s gray bits denoised work detections (λ y. omega arith), refused_same)
 
-      pub same-fix : SameFix w h s gray bits denoised work detections p q
-      same-fix = (fixes (refused p) refl, entry-fixes (entryRefused p) refl)
+      pub same_fix : SameFix w h s gray bits denoised work detections p q
+      same_fix = (fixes (refused p) refl, entry_fixes (entry_refused p) refl)

@@ -8,17 +8,17 @@ use native.Mathlib.Omega.{arith}
 use lib.Dec.{ltb}
 use lib.ListN.{length, length-map}
 use borrow.Author.Tests.{ltb-false}
-use Rattle.lists.proofs.Filters.{each-getD}
+use Rattle.lists.proofs.Filters.{each_get_or}
 use Rattle.lcr_core.specs.Outcome.{zero_side, large_side}
 use Rattle.lcr_core.specs.Passed.{Sides}
 use Rattle.lcr_core.proofs.Checks.{or_false, first_passes, sides_pass}
 use Rattle.blocks.specs.Blocks.{at}
 use Rattle.image.specs.Gray.{unknown_format, short_picture}
 use Rattle.stages.specs.Stages.{stages_refusal, refusal_of}
-use Rattle.stages.specs.Pictures.{bitPicture}
+use Rattle.stages.specs.Pictures.{bit_picture}
 use Rattle.exposure.specs.Exposure.{gray8, brighter, NoneAbove, darker, NoneBelow, Brighter, SameFix, Unmarked, Blank}
-use Rattle.exposure.proofs.Calls.{denoised-same, chain_same, same-fix}
-use Rattle.exposure.proofs.Pictures.{bits-same, unmarked-bits, unmarked-denoised, unmarked-answer}
+use Rattle.exposure.proofs.Calls.{denoised_same, chain_same, same_fix}
+use Rattle.exposure.proofs.Pictures.{bits_same, unmarked_bits, unmarked_denoised, unmarked_answer}
 
 -- every pixel of a picture of w × h pixels in rows of s bytes has its byte
 pub record Whole (w h s len : ℕ) : Type 0 where
@@ -48,11 +48,11 @@ brighter_is k p w h s above l =
     record {
       bytes = length-map p (λ b. b + k);
       more = λ x y a b. at_more k p (y * s + x) (there x y a b);
-      most = λ x y a b. omega (arith, at_more k p (y * s + x) (there x y a b), each-getD _ p (y * s + x) 0 above (there x y a b));
+      most = λ x y a b. omega (arith, at_more k p (y * s + x) (there x y a b), each_get_or _ p (y * s + x) 0 above (there x y a b));
     }
 
-brighter_bits : (k : ℕ) (p : List ℕ) (w h s : ℕ) → NoneAbove k p → Whole w h s (length p) → bitPicture (brighter k p) w h s gray8 ≡ bitPicture p w h s gray8
-brighter_bits k p w h s above a = bits-same k p (brighter k p) w h s a.sides (brighter_is k p w h s above a.bytes)
+brighter_bits : (k : ℕ) (p : List ℕ) (w h s : ℕ) → NoneAbove k p → Whole w h s (length p) → bit_picture (brighter k p) w h s gray8 ≡ bit_picture p w h s gray8
+brighter_bits k p w h s above a = bits_same k p (brighter k p) w h s a.sides (brighter_is k p w h s above a.bytes)
 
 -- ---- k less in every byte: k more gives the picture back
 back : (k : ℕ) (p : List ℕ) → NoneBelow k p → brighter k (darker k p) ≡ p
@@ -63,9 +63,9 @@ none_above : (k : ℕ) (p : List ℕ) → NoneBelow k p → NoneAbove k (darker 
 none_above k [] e = tt
 none_above k (b ∷ p) e = (omega (arith, e.0.0, e.0.1), none_above k p e.1)
 
-darker_bits : (k : ℕ) (p : List ℕ) (w h s : ℕ) → NoneBelow k p → Whole w h s (length p) → bitPicture (darker k p) w h s gray8 ≡ bitPicture p w h s gray8
+darker_bits : (k : ℕ) (p : List ℕ) (w h s : ℕ) → NoneBelow k p → Whole w h s (length p) → bit_picture (darker k p) w h s gray8 ≡ bit_picture p w h s gray8
 darker_bits k p w h s below a =
-    sym (brighter_bits k (darker k p) w h s (none_above k p below) (rw (length-map p (λ b. b - k)) a)) ∙ ap (λ (q : List ℕ). bitPicture q w h s gray8) (back k p below)
+    sym (brighter_bits k (darker k p) w h s (none_above k p below) (rw (length-map p (λ b. b - k)) a)) ∙ ap (λ (q : List ℕ). bit_picture q w h s gray8) (back k p below)
 
 -- ---- calls on pictures of w × h pixels in rows of s bytes, with the same slices lent
 module _ (w h s : ℕ) (gray bits denoised : List ℕ) (work : List (List ℕ)) where
@@ -73,35 +73,35 @@ module _ (w h s : ℕ) (gray bits denoised : List ℕ) (work : List (List ℕ)) 
   accepted p = whole (length p) w h s (length gray) (length bits) (length denoised) (map length work)
 
   -- a brighter exposure moves no fix
-  pub brighter-exposure : (k : ℕ) (p detections : List ℕ) → NoneAbove k p → SameFix w h s gray bits denoised work detections p (brighter k p)
-  brighter-exposure k p detections above =
-      same-fix p (brighter k p) w h s gray bits denoised work detections (length-map p (λ b. b + k)) (λ z. brighter_bits k p w h s above (accepted p z))
+  pub brighter_exposure : (k : ℕ) (p detections : List ℕ) → NoneAbove k p → SameFix w h s gray bits denoised work detections p (brighter k p)
+  brighter_exposure k p detections above =
+      same_fix p (brighter k p) w h s gray bits denoised work detections (length-map p (λ b. b + k)) (λ z. brighter_bits k p w h s above (accepted p z))
 
   -- nor does a darker exposure
-  pub darker-exposure : (k : ℕ) (p detections : List ℕ) → NoneBelow k p → SameFix w h s gray bits denoised work detections p (darker k p)
-  darker-exposure k p detections below =
-      same-fix p (darker k p) w h s gray bits denoised work detections (length-map p (λ b. b - k)) (λ z. darker_bits k p w h s below (accepted p z))
+  pub darker_exposure : (k : ℕ) (p detections : List ℕ) → NoneBelow k p → SameFix w h s gray bits denoised work detections p (darker k p)
+  darker_exposure k p detections below =
+      same_fix p (darker k p) w h s gray bits denoised work detections (length-map p (λ b. b - k)) (λ z. darker_bits k p w h s below (accepted p z))
 
   -- nor one that leaves other bytes between and behind the rows
-  pub pixel-exposure : (k : ℕ) (p q detections : List ℕ) → Brighter k p q w h s → SameFix w h s gray bits denoised work detections p q
-  pixel-exposure k p q detections b =
-      same-fix p q w h s gray bits denoised work detections b.bytes (λ z. bits-same k p q w h s (accepted p z).sides b)
+  pub pixel_exposure : (k : ℕ) (p q detections : List ℕ) → Brighter k p q w h s → SameFix w h s gray bits denoised work detections p q
+  pixel_exposure k p q detections b =
+      same_fix p q w h s gray bits denoised work detections b.bytes (λ z. bits_same k p q w h s (accepted p z).sides b)
 
   -- a picture without marks, which is not refused by 1 to 5, is blank at either exposure
-  blank : (p q : List ℕ) → refusal_of p w h s gray8 gray bits denoised work ≡ 0 → bitPicture q w h s gray8 ≡ bitPicture p w h s gray8 → Unmarked p w h s
+  blank : (p q : List ℕ) → refusal_of p w h s gray8 gray bits denoised work ≡ 0 → bit_picture q w h s gray8 ≡ bit_picture p w h s gray8 → Unmarked p w h s
       → Blank p w h s × Blank q w h s
   blank p q z e u =
-      let dark = unmarked-bits p w h s u in
-      let noise = unmarked-denoised p w h s u in
-      let found = unmarked-answer p w h s (length p) (length gray) (length bits) (length denoised) (map length work) z u in (
+      let dark = unmarked_bits p w h s u in
+      let noise = unmarked_denoised p w h s u in
+      let found = unmarked_answer p w h s (length p) (length gray) (length bits) (length denoised) (map length work) z u in (
         record { bits = dark; denoised = noise; answer = found },
-        record { bits = rw e dark; denoised = rw (denoised-same p q w h s e) noise; answer = chain_same p q w h s e ∙ found },
+        record { bits = rw e dark; denoised = rw (denoised_same p q w h s e) noise; answer = chain_same p q w h s e ∙ found },
       )
 
-  pub brighter-unmarked : (k : ℕ) (p : List ℕ) → NoneAbove k p → refusal_of p w h s gray8 gray bits denoised work ≡ 0 → Unmarked p w h s
+  pub brighter_unmarked : (k : ℕ) (p : List ℕ) → NoneAbove k p → refusal_of p w h s gray8 gray bits denoised work ≡ 0 → Unmarked p w h s
       → Blank p w h s × Blank (brighter k p) w h s
-  brighter-unmarked k p above z = blank p (brighter k p) z (brighter_bits k p w h s above (accepted p z))
+  brighter_unmarked k p above z = blank p (brighter k p) z (brighter_bits k p w h s above (accepted p z))
 
-  pub darker-unmarked : (k : ℕ) (p : List ℕ) → NoneBelow k p → refusal_of p w h s gray8 gray bits denoised work ≡ 0 → Unmarked p w h s
+  pub darker_unmarked : (k : ℕ) (p : List ℕ) → NoneBelow k p → refusal_of p w h s gray8 gray bits denoised work ≡ 0 → Unmarked p w h s
       → Blank p w h s × Blank (darker k p) w h s
-  darker-unmarked k p below z = blank p (darker k p) z (darker_bits k p w h s below (accepted p z))
+  darker_unmarked k p below z = blank p (darker k p) z (darker_bits k p w h s below (accepted p z))

@@ -6,7 +6,7 @@ use Rattle.lists.specs.Lists.{Each}
 use Rattle.image.specs.Gray.{channels_of}
 use Rattle.image.specs.declared.PixelFormat.TheVariants.{Gray8}
 use Rattle.blocks.specs.Blocks.{at}
-use Rattle.stages.specs.Pictures.{bitPicture, denoisedPicture, edgeMarks, nearMarks, bitsAfter, denoisedAfter}
+use Rattle.stages.specs.Pictures.{bit_picture, denoised_picture, edge_marks, near_marks, bits_after, denoised_after}
 use Rattle.finders.specs.declared.Found.{Found}
 use Rattle.finders.specs.Answer.{answer_of}
 use Rattle.candidates.specs.declared.Answer.{Answer}
@@ -61,20 +61,20 @@ gray8 = channels_of Gray8
 -- for a picture p of w × h pixels in rows of s bytes, and the slices lent, of which `work` has the five work slices
 module _ (w h s : ℕ) (gray bits denoised : List ℕ) (work : List (List ℕ)) where
   -- of `chain`
-  abbrev pub fixOf : List ℕ → Fix
-  fixOf p =
+  abbrev pub fix_of : List ℕ → Fix
+  fix_of p =
       let r = whole_answer p w h s gray8 gray bits denoised work in
-      let d = denoisedAfter r.refusal p w h s gray8 denoised in
-      record { answer = r; bits = bitsAfter r.refusal p w h s gray8 bits; denoised = d; finders = answer_of d w h }
+      let d = denoised_after r.refusal p w h s gray8 denoised in
+      record { answer = r; bits = bits_after r.refusal p w h s gray8 bits; denoised = d; finders = answer_of d w h }
 
   -- of `plate_chain`, which is lent a slice of detections too
-  abbrev pub entryFixOf : List ℕ → List ℕ → EntryFix
-  entryFixOf detections p =
+  abbrev pub entry_fix_of : List ℕ → List ℕ → EntryFix
+  entry_fix_of detections p =
       let n = (entry_answer p w h s gray8 gray bits denoised work detections).refusal in
-      let d = denoisedAfter n p w h s gray8 denoised in
+      let d = denoised_after n p w h s gray8 denoised in
       record {
         number = n;
-        bits = bitsAfter n p w h s gray8 bits;
+        bits = bits_after n p w h s gray8 bits;
         denoised = d;
         finders = answer_of d w h;
         detections = detections_after n p w h s gray8 detections;
@@ -82,16 +82,16 @@ module _ (w h s : ℕ) (gray bits denoised : List ℕ) (work : List (List ℕ)) 
 
   -- both are the same for the pictures p and q
   abbrev pub SameFix : List ℕ → List ℕ → List ℕ → Type 0
-  SameFix detections p q = (fixOf q ≡ fixOf p) × (entryFixOf detections q ≡ entryFixOf detections p)
+  SameFix detections p q = (fix_of q ≡ fix_of p) × (entry_fix_of detections q ≡ entry_fix_of detections p)
 
 -- ---- pictures without marks
 
 -- each edge mark and each near mark is 0
 abbrev pub Unmarked : List ℕ → ℕ → ℕ → ℕ → Type 0
-Unmarked p w h s = Each (λ m. m ≡ 0) (edgeMarks p w h s gray8) × Each (λ m. m ≡ 0) (nearMarks p w h s gray8)
+Unmarked p w h s = Each (λ m. m ≡ 0) (edge_marks p w h s gray8) × Each (λ m. m ≡ 0) (near_marks p w h s gray8)
 
 -- nothing is dark, in the bits and in the denoised bits, and nothing is found: 0 and no detection
 pub record Blank (p : List ℕ) (w h s : ℕ) : Type 0 where
-  pub bits : Each (λ b. b ≡ 0) (bitPicture p w h s gray8)
-  pub denoised : Each (λ b. b ≡ 0) (denoisedPicture p w h s gray8)
+  pub bits : Each (λ b. b ≡ 0) (bit_picture p w h s gray8)
+  pub denoised : Each (λ b. b ≡ 0) (denoised_picture p w h s gray8)
   pub answer : chain_of p w h s gray8 ≡ answered 0 []

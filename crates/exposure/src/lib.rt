@@ -1,1 +1,2 @@
 // What another exposure changes of a fix: nothing. No code.
+#![tactic(auto)]

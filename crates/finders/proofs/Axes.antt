@@ -3,7 +3,7 @@ use Rattle.std.proofs.Common.{◌≡◌, ℕ, zero, suc, ◌+◌, ◌-◌, ◌*�
 use mathlib.Core.Bool.{beq}
 use lib.Ieee.{Float}
 use Rattle.lists.specs.Lists.{range, folded, flat_map}
-use Rattle.lists.proofs.Folds.{each_range, folded-append, flatMap-few, flatMap-same, length-count}
+use Rattle.lists.proofs.Folds.{each_range, folded-append, flat_map_few, flat_map_same, length-count}
 use Rattle.lcr_core.specs.Outcome.{max_side}
 use Rattle.lcr_core.specs.Passed.{Sides}
 use Rattle.binary.specs.Line.{pixel}
@@ -16,9 +16,9 @@ use Rattle.confirm.specs.declared.Confirmed.TheVariants.{Point, Nothing}
 use Rattle.finders.specs.declared.search.Line.{Line}
 use Rattle.finders.specs.Hits.{Hit, runs, hit_if, window, hits, line_hits}
 use Rattle.finders.specs.Held.{Sighting, Held, held, merge_next}
-use Rattle.finders.specs.Search.{max_finders, sighting, seen, every_second, rowSightingsBy, columnSightingsBy, sightingsBy, foundBy, found}
-use Rattle.finders.specs.Inner.{line_most, axis_most, Fine, line_at, line_count, lineSightings, scanned, scannedAt, axis}
-use Rattle.finders.proofs.Folding.{folded-flatMap}
+use Rattle.finders.specs.Search.{max_finders, sighting, seen, every_second, row_sightings_by, column_sightings_by, sightings_by, found_by, found}
+use Rattle.finders.specs.Inner.{line_most, axis_most, Fine, line_at, line_count, line_sightings, scanned, scanned_at, axis}
+use Rattle.finders.proofs.Folding.{folded-flat_map}
 use Rattle.finders.proofs.Tables.{fine_mono, folded_fine}
 
 -- ---- a line of len pixels has at most len + 1 runs, and no more hits than runs
@@ -58,7 +58,7 @@ hits_few f len = omega (arith, hits-length 0 (runs f true 0 0 len), runs-length 
 -- what every second line gives, where those that are scanned give the same
 pub second_same : (f g : ℕ → List Sighting) (n : ℕ) → ((k : ℕ) → 2 * k < n → f (2 * k) ≡ g (2 * k)) → every_second f n ≡ every_second g n
 second_same f g n e =
-    flatMap-same (λ (k : ℕ). f (2 * k)) (λ (k : ℕ). g (2 * k)) (range 0 ((n + 1) / 2)) (each_range (λ (k : ℕ). f (2 * k) ≡ g (2 * k)) 0 ((n + 1) / 2) (λ k _ l. e k (omega arith)))
+    flat_map_same (λ (k : ℕ). f (2 * k)) (λ (k : ℕ). g (2 * k)) (range 0 ((n + 1) / 2)) (each_range (λ (k : ℕ). f (2 * k) ≡ g (2 * k)) 0 ((n + 1) / 2) (λ k _ l. e k (omega arith)))
 
 module _ (bits : List ℕ) (width height : ℕ) where
   -- and no more confirmed hits than hits
@@ -69,66 +69,66 @@ module _ (bits : List ℕ) (width height : ℕ) where
       go (Point x y) = omega arith
       go Nothing = omega arith
 
-  sightings-few : (l : Line) → length (lineSightings bits width height l) ≤ l.len + 1
-  sightings-few l =
-      omega (arith, flatMap-few (seen bits width height l.columns l.number) (seen_one l.columns l.number) (line_hits (pixel bits l.start l.stride) l.len), hits_few (pixel bits l.start l.stride) l.len)
+  sightings_few : (l : Line) → length (line_sightings bits width height l) ≤ l.len + 1
+  sightings_few l =
+      omega (arith, flat_map_few (seen bits width height l.columns l.number) (seen_one l.columns l.number) (line_hits (pixel bits l.start l.stride) l.len), hits_few (pixel bits l.start l.stride) l.len)
 
-  pub scanned-fine : (s : Held) (l : Line) (k : ℕ) → l.len ≤ max_side → Fine s k → Fine (scanned bits width height s l) (k + line_most)
-  scanned-fine s l k h f =
-      fine_mono (scanned bits width height s l) (k + length (lineSightings bits width height l)) (k + line_most) (omega (arith, sightings-few l)) (folded_fine s (lineSightings bits width height l) k f)
+  pub scanned_fine : (s : Held) (l : Line) (k : ℕ) → l.len ≤ max_side → Fine s k → Fine (scanned bits width height s l) (k + line_most)
+  scanned_fine s l k h f =
+      fine_mono (scanned bits width height s l) (k + length (line_sightings bits width height l)) (k + line_most) (omega (arith, sightings_few l)) (folded_fine s (line_sightings bits width height l) k f)
 
   module _ (p : Sides width height) (columns : Bool) where
-    pub line-short : (n : ℕ) → (line_at width height columns n).len ≤ max_side
-    line-short n = go columns
+    pub line_short : (n : ℕ) → (line_at width height columns n).len ≤ max_side
+    line_short n = go columns
       where
         go : (c : Bool) → (line_at width height c n).len ≤ max_side
-        go true = p.h-most
-        go false = p.w-most
+        go true = p.h_most
+        go false = p.w_most
 
     pub count_small : line_count width height columns ≤ max_side
     count_small = go columns
       where
         go : (c : Bool) → line_count width height c ≤ max_side
-        go true = p.w-most
-        go false = p.h-most
+        go true = p.w_most
+        go false = p.h_most
 
-    lines-fine : (s : Held) (ns : List ℕ) (k : ℕ) → Fine s k → Fine (folded (scannedAt bits width height columns) s ns) (k + line_most * length ns)
+    lines_fine : (s : Held) (ns : List ℕ) (k : ℕ) → Fine s k → Fine (folded (scanned_at bits width height columns) s ns) (k + line_most * length ns)
     unfolding folded
-    lines-fine s [] k f = fine_mono s k (k + line_most * 0) (omega arith) f
-    lines-fine s (n ∷ ns) k f =
-        fine_mono (folded (scannedAt bits width height columns) (scannedAt bits width height columns s n) ns) (k + line_most + line_most * length ns) (k + line_most * suc (length ns)) (omega arith)
-        (lines-fine (scannedAt bits width height columns s n) ns (k + line_most) (scanned-fine s (line_at width height columns (2 * n)) k (line-short (2 * n)) f))
+    lines_fine s [] k f = fine_mono s k (k + line_most * 0) (omega arith) f
+    lines_fine s (n ∷ ns) k f =
+        fine_mono (folded (scanned_at bits width height columns) (scanned_at bits width height columns s n) ns) (k + line_most + line_most * length ns) (k + line_most * suc (length ns)) (omega arith)
+        (lines_fine (scanned_at bits width height columns s n) ns (k + line_most) (scanned_fine s (line_at width height columns (2 * n)) k (line_short (2 * n)) f))
 
-    pub axis-fine : (s : Held) (k : ℕ) → Fine s k → Fine (axis bits width height columns s) (k + axis_most)
+    pub axis_fine : (s : Held) (k : ℕ) → Fine s k → Fine (axis bits width height columns s) (k + axis_most)
     unfolding axis
-    axis-fine s k f =
+    axis_fine s k f =
         let c = (line_count width height columns + 1) / 2 in
-        fine_mono (folded (scannedAt bits width height columns) s (range 0 c)) (k + line_most * length (range 0 c)) (k + axis_most) (omega (arith, count_small, length-count 0 (c - 0)))
-        (lines-fine s (range 0 c) k f)
+        fine_mono (folded (scanned_at bits width height columns) s (range 0 c)) (k + line_most * length (range 0 c)) (k + axis_most) (omega (arith, count_small, length-count 0 (c - 0)))
+        (lines_fine s (range 0 c) k f)
 
   -- ---- the first hit of several, confirmed or not
   module _ (columns : Bool) (n : ℕ) (hs : List Hit) (h : Hit) (rest : List Hit) (is : hs ≡ h ∷ rest) (c : Confirmed) (z : c ≡ confirmed_on bits width height columns n h.centre h.pitch) where
-    pub sighted-first : (x y : Float) → c ≡ Point x y
+    pub sighted_first : (x y : Float) → c ≡ Point x y
         → flat_map (seen bits width height columns n) hs ≡ record { x = x; y = y; pitch = h.pitch } ∷ flat_map (seen bits width height columns n) rest
     unfolding flat_map
-    sighted-first x y e = rw (is, ← z, e)
+    sighted_first x y e = rw (is, ← z, e)
 
-    pub sighted-later : c ≡ Nothing → flat_map (seen bits width height columns n) hs ≡ flat_map (seen bits width height columns n) rest
+    pub sighted_later : c ≡ Nothing → flat_map (seen bits width height columns n) hs ≡ flat_map (seen bits width height columns n) rest
     unfolding flat_map
-    sighted-later e = rw (is, ← z, e)
+    sighted_later e = rw (is, ← z, e)
 
   -- ---- rows, then columns
-  rows_are : (s : Held) → folded (merge_next max_finders) s (every_second (rowSightingsBy core_of bits width height) height) ≡ axis bits width height false s
+  rows_are : (s : Held) → folded (merge_next max_finders) s (every_second (row_sightings_by core_of bits width height) height) ≡ axis bits width height false s
   unfolding axis
-  rows_are s = folded-flatMap (merge_next max_finders) (λ k. rowSightingsBy core_of bits width height (2 * k)) s (range 0 ((height + 1) / 2))
+  rows_are s = folded-flat_map (merge_next max_finders) (λ k. row_sightings_by core_of bits width height (2 * k)) s (range 0 ((height + 1) / 2))
 
-  columns-are : (s : Held) → folded (merge_next max_finders) s (every_second (columnSightingsBy core_of bits width height) width) ≡ axis bits width height true s
+  columns_are : (s : Held) → folded (merge_next max_finders) s (every_second (column_sightings_by core_of bits width height) width) ≡ axis bits width height true s
   unfolding axis
-  columns-are s = folded-flatMap (merge_next max_finders) (λ k. columnSightingsBy core_of bits width height (2 * k)) s (range 0 ((width + 1) / 2))
+  columns_are s = folded-flat_map (merge_next max_finders) (λ k. column_sightings_by core_of bits width height (2 * k)) s (range 0 ((width + 1) / 2))
 
-  pub found-is : found bits width height ≡ axis bits width height true (axis bits width height false (held []))
-  unfolding foundBy sightingsBy
-  found-is =
-      folded-append (merge_next max_finders) (held []) (every_second (rowSightingsBy core_of bits width height) height) (every_second (columnSightingsBy core_of bits width height) width)
-      ∙ columns-are (folded (merge_next max_finders) (held []) (every_second (rowSightingsBy core_of bits width height) height))
+  pub found_is : found bits width height ≡ axis bits width height true (axis bits width height false (held []))
+  unfolding found_by sightings_by
+  found_is =
+      folded-append (merge_next max_finders) (held []) (every_second (row_sightings_by core_of bits width height) height) (every_second (column_sightings_by core_of bits width height) width)
+      ∙ columns_are (folded (merge_next max_finders) (held []) (every_second (row_sightings_by core_of bits width height) height))
       ∙ ap (axis bits width height true) (rows_are (held []))

@@ -14,10 +14,10 @@ module _ {S A : Type 0} where
       go true h = h (g s x)
       go false h = h s
 
-  pub folded-flatMap : {B : Type 0} (g : S → B → S) (f : A → List B) (s : S) (xs : List A) → folded g s (flat_map f xs) ≡ folded (λ (u : S) (a : A). folded g u (f a)) s xs
+  pub folded-flat_map : {B : Type 0} (g : S → B → S) (f : A → List B) (s : S) (xs : List A) → folded g s (flat_map f xs) ≡ folded (λ (u : S) (a : A). folded g u (f a)) s xs
   unfolding folded flat_map
-  folded-flatMap g f s [] = refl
-  folded-flatMap g f s (x ∷ xs) = folded-append g s (f x) (flat_map f xs) ∙ folded-flatMap g f (folded g s (f x)) xs
+  folded-flat_map g f s [] = refl
+  folded-flat_map g f s (x ∷ xs) = folded-append g s (f x) (flat_map f xs) ∙ folded-flat_map g f (folded g s (f x)) xs
 
   -- over the first n places of a table, at place i
   module _ (g : S → A → S) (s : S) (xs : List A) (n : ℕ) (fit : n ≤ length xs) where
@@ -27,6 +27,6 @@ module _ {S A : Type 0} where
         let l : i < length (take n xs) = rw (length-take-le n xs fit) h in
         ap (folded g s) (drop-cons (take n xs) i d l) ∙ rw (get_or-take n xs i d h, add-one)
 
-    pub fold-last : folded g s (drop n (take n xs)) ≡ s
+    pub fold_last : folded g s (drop n (take n xs)) ≡ s
     unfolding folded
-    fold-last = rw (drop_of_length-le (take n xs) {i = n} (le_of_eq (length-take-le n xs fit)))
+    fold_last = rw (drop_of_length-le (take n xs) {i = n} (le_of_eq (length-take-le n xs fit)))

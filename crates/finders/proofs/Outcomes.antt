@@ -13,8 +13,8 @@ use Rattle.finders.specs.Search.{max_finders, found}
 use Rattle.finders.specs.Rank.{ranked}
 use Rattle.finders.specs.Answer.{table_of, is_over, held_list, find_refusal, answer_of, held_in}
 use Rattle.finders.specs.Inner.{axis_most, merged_of, held_of, Sound, Fine, axis, refused, outcome}
-use Rattle.finders.proofs.Tables.{held_in_lem, held_of_lem, sound_of, fine_mono, open-rest, open-fine}
-use Rattle.finders.proofs.Axes.{axis-fine, found-is}
+use Rattle.finders.proofs.Tables.{held_in_lem, held_of_lem, sound_of, fine_mono, open_rest, open_fine}
+use Rattle.finders.proofs.Axes.{axis_fine, found_is}
 
 pub outcome_full : (s : Held) (r : Merged) → r ≡ merged_of s → r.full ≡ true → refused FullTable ≡ outcome s
 outcome_full over r e f = refl
@@ -38,34 +38,34 @@ pub start_sound : (t : Finders) → t ≡ table_of [] → Sound (record { full =
 start_sound t e = sound_of _ (held []) axis_most (start_is t e) (fine_mono (held []) 0 axis_most (omega arith) none_fine)
 
 module _ (bits : List ℕ) (width height : ℕ) (p : Sides width height) where
-  rows-fine : Fine (axis bits width height false (held [])) (0 + axis_most)
-  rows-fine = axis-fine bits width height p false (held []) 0 none_fine
+  rows_fine : Fine (axis bits width height false (held [])) (0 + axis_most)
+  rows_fine = axis_fine bits width height p false (held []) 0 none_fine
 
   pub rows_is : (t : Finders) → t ≡ table_of [] → (r : Merged) → r ≡ merged_of (axis bits width height false (held_of (record { full = false; finders = t })))
       → r ≡ merged_of (axis bits width height false (held []))
   rows_is t e r g = g ∙ ap (λ z. merged_of (axis bits width height false z)) (ap held_of (start_is t e))
 
-  pub rows-sound : (r : Merged) → r ≡ merged_of (axis bits width height false (held [])) → Sound r axis_most
-  rows-sound r e = sound_of r (axis bits width height false (held [])) axis_most e (fine_mono (axis bits width height false (held [])) (0 + axis_most) axis_most (omega arith) rows-fine)
+  pub rows_sound : (r : Merged) → r ≡ merged_of (axis bits width height false (held [])) → Sound r axis_most
+  rows_sound r e = sound_of r (axis bits width height false (held [])) axis_most e (fine_mono (axis bits width height false (held [])) (0 + axis_most) axis_most (omega arith) rows_fine)
 
-  pub all-is : (q r : Merged) → q ≡ merged_of (axis bits width height false (held [])) → r ≡ merged_of (axis bits width height true (held_of q))
+  pub all_is : (q r : Merged) → q ≡ merged_of (axis bits width height false (held [])) → r ≡ merged_of (axis bits width height true (held_of q))
       → r ≡ merged_of (found bits width height)
-  all-is q r e g =
-      g ∙ ap (λ z. merged_of (axis bits width height true z)) (ap held_of e ∙ held_of_lem (axis bits width height false (held []))) ∙ ap merged_of (sym (found-is bits width height))
+  all_is q r e g =
+      g ∙ ap (λ z. merged_of (axis bits width height true z)) (ap held_of e ∙ held_of_lem (axis bits width height false (held []))) ∙ ap merged_of (sym (found_is bits width height))
 
-  pub all-table : (r : Merged) → r ≡ merged_of (found bits width height) → r.full ≡ false → (r.finders ≡ table_of (held_in r.finders)) × (r.finders.count ≤ max_finders)
-  all-table r e f =
+  pub all_table : (r : Merged) → r ≡ merged_of (found bits width height) → r.full ≡ false → (r.finders ≡ table_of (held_in r.finders)) × (r.finders.count ≤ max_finders)
+  all_table r e f =
       let k = 0 + axis_most + axis_most in
       let a = axis bits width height true (axis bits width height false (held [])) in
-      let s : Sound r k = sound_of r a k (e ∙ ap merged_of (found-is bits width height)) (axis-fine bits width height p true (axis bits width height false (held [])) (0 + axis_most) rows-fine) in
-      let w = open-rest r k s f in
-      (w, (let n : r.finders.count ≡ length (held_in r.finders) = ap (λ (z : Finders). z.count) w in omega (arith, (open-fine r k s f).0)))
+      let s : Sound r k = sound_of r a k (e ∙ ap merged_of (found_is bits width height)) (axis_fine bits width height p true (axis bits width height false (held [])) (0 + axis_most) rows_fine) in
+      let w = open_rest r k s f in
+      (w, (let n : r.finders.count ≡ length (held_in r.finders) = ap (λ (z : Finders). z.count) w in omega (arith, (open_fine r k s f).0)))
 
 -- ---- the refusals
 module _ (bits : List ℕ) (width height n : ℕ) (e : n ≡ bits_refusal (length bits) width height) where
-  pub refuse-is : (o : Outcome) → n ≡ number_of o → (n ≡ 0 → ⊥) → refused o ≡ answer_of bits width height
+  pub refuse_is : (o : Outcome) → n ≡ number_of o → (n ≡ 0 → ⊥) → refused o ≡ answer_of bits width height
   unfolding answer_of find_refusal bits_refusal
-  refuse-is o q h = go (zero_side width height) (large_side width height) (short_bits (length bits) width height) (is_over (found bits width height)) (ranked (held_list (found bits width height))) (number_of o) (sym q ∙ e) (λ z. h (q ∙ z))
+  refuse_is o q h = go (zero_side width height) (large_side width height) (short_bits (length bits) width height) (is_over (found bits width height)) (ranked (held_list (found bits width height))) (number_of o) (sym q ∙ e) (λ z. h (q ∙ z))
     where
       go : (a b c o : Bool) (fs : List _) (n : ℕ) → n ≡ cond a 1 (cond b 2 (cond c 4 0)) → (n ≡ 0 → ⊥)
           → ◌≡◌ {A = Found} (record { refusal = n; finders = table_of [] }) (record { refusal = cond a 1 (cond b 2 (cond c 4 (cond o 6 0))); finders = table_of (unless (cond a 1 (cond b 2 (cond c 4 (cond o 6 0)))) [] fs) })

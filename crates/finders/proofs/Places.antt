@@ -9,9 +9,9 @@ use Rattle.finders.specs.Inner.{Bounded}
 
 -- ---- the search for the first that passes p, in the first n places of a table, at place i
 module _ {A : Type 0} (p : A → Bool) (xs : List A) (n : ℕ) (fit : n ≤ length xs) where
-  pub first-here : (i : ℕ) (d : A) → i < n → p (get_or xs i d) ≡ true → first_where p (drop i (take n xs)) ≡ 0
+  pub first_here : (i : ℕ) (d : A) → i < n → p (get_or xs i d) ≡ true → first_where p (drop i (take n xs)) ≡ 0
   unfolding first_where
-  first-here i d h e =
+  first_here i d h e =
       let l : i < length (take n xs) = rw (length-take-le n xs fit) h in
       rw (drop-cons (take n xs) i d l, get_or-take n xs i d h, e)
 
@@ -46,10 +46,10 @@ module _ (s : Sighting) where
       go true k r = refl
       go false k r = ap (λ l. f ∷ l) (r (omega arith))
 
-  pub place-new : (fs : List Finder) → length fs ≤ first_where takes fs → place fs s ≡ fs ++ (fresh s ∷ [])
+  pub place_new : (fs : List Finder) → length fs ≤ first_where takes fs → place fs s ≡ fs ++ (fresh s ∷ [])
   unfolding place first_where
-  place-new [] h = refl
-  place-new (f ∷ fs) h = go (takes f) h (λ k. place-new fs k)
+  place_new [] h = refl
+  place_new (f ∷ fs) h = go (takes f) h (λ k. place_new fs k)
     where
       go : (t : Bool) → suc (length fs) ≤ cond t 0 (suc (first_where takes fs))
           → (length fs ≤ first_where takes fs → place fs s ≡ fs ++ (fresh s ∷ []))
@@ -67,12 +67,12 @@ module _ (s : Sighting) where
         let p : place fs s ≡ set fs i (joined (get_or fs i d)) = rw e (place_at fs d (rw e at h)) in
         kept (set fs i (joined (get_or fs i d))) p (rw (length-set fs i (joined (get_or fs i d))) few)
 
-    pub merge-new : length fs ≤ i → length fs < limit → merge limit fs s ≡ held (fs ++ (fresh s ∷ []))
-    merge-new h l = kept (fs ++ (fresh s ∷ [])) (place-new fs (rw e at h)) (rw (length-append fs (fresh s ∷ [])) (omega arith))
+    pub merge_new : length fs ≤ i → length fs < limit → merge limit fs s ≡ held (fs ++ (fresh s ∷ []))
+    merge_new h l = kept (fs ++ (fresh s ∷ [])) (place_new fs (rw e at h)) (rw (length-append fs (fresh s ∷ [])) (omega arith))
 
-    pub merge-over : length fs ≤ i → limit ≤ length fs → merge limit fs s ≡ over
+    pub merge_over : length fs ≤ i → limit ≤ length fs → merge limit fs s ≡ over
     unfolding merge
-    merge-over h l = rw (place-new fs (rw e at h), lt-leb (length (fs ++ (fresh s ∷ []))) limit (rw (length-append fs (fresh s ∷ [])) (omega arith)))
+    merge_over h l = rw (place_new fs (rw e at h), lt-leb (length (fs ++ (fresh s ∷ []))) limit (rw (length-append fs (fresh s ∷ [])) (omega arith)))
 
 -- ---- the counts grow by one with a hit
 pub bounded_mono : (fs : List Finder) (j k : ℕ) → j ≤ k → Bounded fs j → Bounded fs k

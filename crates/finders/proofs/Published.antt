@@ -3,17 +3,17 @@
 use Rattle.std.proofs.Common.{◌≡◌, ℕ, ◌*◌, Bool, true, false, cond, List, [], ◌++◌, length, refl, ap, ◌∙◌, ap₂, arith}
 use lib.Ieee.{Float}
 use Rattle.lists.specs.Lists.{Each, folded, flat_map}
-use Rattle.lists.proofs.Folds.{flatMap-same}
+use Rattle.lists.proofs.Folds.{flat_map_same}
 use Rattle.lists.proofs.Filters.{each_map}
 use Rattle.binary.specs.Line.{row, column}
-use Rattle.confirm.specs.Confirm.{core_of, counted_of, confirmed_on}
-use Rattle.confirm.specs.Published.{counted_on, cutOn}
-use Rattle.confirm.proofs.Theorems.{cut-dropped}
+use Rattle.confirm.specs.Confirm.{core_of, counted_of}
+use Rattle.confirm.specs.Published.{counted_on, cut_on}
+use Rattle.confirm.proofs.Theorems.{cut_dropped}
 use Rattle.confirm.specs.declared.Confirmed.{Confirmed}
 use Rattle.confirm.specs.declared.Confirmed.TheVariants.{Point, Nothing}
 use Rattle.finders.specs.Hits.{Hit, line_hits}
-use Rattle.finders.specs.Held.{Sighting, Held, held, merge_next}
-use Rattle.finders.specs.Search.{max_finders, sighting, seenBy, rowSightingsBy, columnSightingsBy, sightingsBy, foundBy, sightings, found}
+use Rattle.finders.specs.Held.{Sighting, held, merge_next}
+use Rattle.finders.specs.Search.{max_finders, sighting, seen_by, row_sightings_by, column_sightings_by, sightings_by, found_by, sightings, found}
 use Rattle.finders.specs.Answer.{refusal_after, finders_after, answer_after, find_refusal, finders_of, answer_of}
 use Rattle.finders.proofs.Axes.{second_same}
 use Rattle.finders.specs.Published.{published_sightings, published_finders, published_refusal, published_answer, Uncut, NoneCut}
@@ -25,36 +25,36 @@ not_dropped m true Nothing u = refl
 not_dropped m false Nothing u = refl
 
 module _ (bits : List ℕ) (w h : ℕ) where
-  seen_same : (columns : Bool) (n : ℕ) (t : Hit) → Uncut bits w h columns n t → seenBy core_of bits w h columns n t ≡ seenBy counted_of bits w h columns n t
+  seen_same : (columns : Bool) (n : ℕ) (t : Hit) → Uncut bits w h columns n t → seen_by core_of bits w h columns n t ≡ seen_by counted_of bits w h columns n t
   seen_same columns n t u =
-      ap (sighting t.pitch) (cut-dropped bits w h columns n t.centre t.pitch)
-      ∙ not_dropped t.pitch (cutOn bits w h columns n t.centre t.pitch) (counted_on bits w h columns n t.centre t.pitch) u
+      ap (sighting t.pitch) (cut_dropped bits w h columns n t.centre t.pitch)
+      ∙ not_dropped t.pitch (cut_on bits w h columns n t.centre t.pitch) (counted_on bits w h columns n t.centre t.pitch) u
 
-  line_same : (columns : Bool) (n : ℕ) (ts : List Hit) → Each (Uncut bits w h columns n) ts → flat_map (seenBy core_of bits w h columns n) ts ≡ flat_map (seenBy counted_of bits w h columns n) ts
+  line_same : (columns : Bool) (n : ℕ) (ts : List Hit) → Each (Uncut bits w h columns n) ts → flat_map (seen_by core_of bits w h columns n) ts ≡ flat_map (seen_by counted_of bits w h columns n) ts
   line_same columns n ts u =
-      flatMap-same (seenBy core_of bits w h columns n) (seenBy counted_of bits w h columns n) ts
-      (each_map (Uncut bits w h columns n) (λ (t : Hit). seenBy core_of bits w h columns n t ≡ seenBy counted_of bits w h columns n t) (seen_same columns n) ts u)
+      flat_map_same (seen_by core_of bits w h columns n) (seen_by counted_of bits w h columns n) ts
+      (each_map (Uncut bits w h columns n) (λ (t : Hit). seen_by core_of bits w h columns n t ≡ seen_by counted_of bits w h columns n t) (seen_same columns n) ts u)
 
   module _ (u : NoneCut bits w h) where
-    pub uncut-sightings : sightings bits w h ≡ published_sightings bits w h
-    unfolding sightingsBy
-    uncut-sightings =
+    pub uncut_sightings : sightings bits w h ≡ published_sightings bits w h
+    unfolding sightings_by
+    uncut_sightings =
         ap₂ (λ (a b : List Sighting). a ++ b)
-        (second_same (rowSightingsBy core_of bits w h) (rowSightingsBy counted_of bits w h) h (λ k l. line_same false (2 * k) (line_hits (row bits w (2 * k)) w) (u.rows k (omega (arith, l)))))
-        (second_same (columnSightingsBy core_of bits w h) (columnSightingsBy counted_of bits w h) w (λ k l. line_same true (2 * k) (line_hits (column bits w (2 * k)) h) (u.columns k (omega (arith, l)))))
+        (second_same (row_sightings_by core_of bits w h) (row_sightings_by counted_of bits w h) h (λ k l. line_same false (2 * k) (line_hits (row bits w (2 * k)) w) (u.rows k (omega (arith, l)))))
+        (second_same (column_sightings_by core_of bits w h) (column_sightings_by counted_of bits w h) w (λ k l. line_same true (2 * k) (line_hits (column bits w (2 * k)) h) (u.columns k (omega (arith, l)))))
 
-    uncut-found : found bits w h ≡ foundBy counted_of bits w h
-    unfolding foundBy
-    uncut-found = ap (folded (merge_next max_finders) (held [])) uncut-sightings
+    uncut_found : found bits w h ≡ found_by counted_of bits w h
+    unfolding found_by
+    uncut_found = ap (folded (merge_next max_finders) (held [])) uncut_sightings
 
-    pub uncut-finders : finders_of bits w h ≡ published_finders bits w h
-    uncut-finders = ap finders_after uncut-found
+    pub uncut_finders : finders_of bits w h ≡ published_finders bits w h
+    uncut_finders = ap finders_after uncut_found
 
-    pub uncut-refusal : find_refusal bits w h ≡ published_refusal bits w h
+    pub uncut_refusal : find_refusal bits w h ≡ published_refusal bits w h
     unfolding find_refusal
-    uncut-refusal = ap (refusal_after (length bits) w h) uncut-found
+    uncut_refusal = ap (refusal_after (length bits) w h) uncut_found
 
     -- `find_finders`
-    pub uncut-answer : answer_of bits w h ≡ published_answer bits w h
+    pub uncut_answer : answer_of bits w h ≡ published_answer bits w h
     unfolding answer_of
-    uncut-answer = ap₂ answer_after uncut-refusal uncut-finders
+    uncut_answer = ap₂ answer_after uncut_refusal uncut_finders

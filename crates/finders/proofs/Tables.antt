@@ -2,8 +2,8 @@
 use Rattle.std.proofs.Common.{◌≡◌, ℕ, suc, ◌+◌, ◌-◌, ◌^◌, ◌<◌, ◌≤◌, Bool, true, false, cond, leb, List, [], ◌∷◌, ◌++◌, length, get_or, set, replicate, sym, refl, ap, ◌∙◌, subst, arith, length-append, length-set, get_or-take, leb-true}
 use lib.Seq.{set-append_left}
 use Rattle.lists.specs.Lists.{folded, first_where, padded}
-use Rattle.lists.proofs.Filters.{each-getD}
-use Rattle.lists.proofs.Padded.{take-padded, getD-padded, padded-more, length-padded}
+use Rattle.lists.proofs.Filters.{each_get_or}
+use Rattle.lists.proofs.Padded.{take-padded, get_or-padded, padded_more, length-padded}
 use Rattle.geometry.specs.declared.Finder.{Finder}
 use Rattle.finders.specs.declared.Finders.{Finders}
 use Rattle.finders.specs.declared.held.Merged.{Merged}
@@ -12,7 +12,7 @@ use Rattle.finders.specs.Search.{max_finders}
 use Rattle.finders.specs.Answer.{table_of, held_in}
 use Rattle.geometry.specs.Order.{zero_finder}
 use Rattle.finders.specs.Inner.{merged_of, held_of, Bounded, Good, Fine, Sound}
-use Rattle.finders.proofs.Places.{merge-join, merge-new, merge-over, bounded_mono, place_bounded}
+use Rattle.finders.proofs.Places.{merge-join, merge_new, merge_over, bounded_mono, place_bounded}
 
 -- ---- a table and the list that it holds
 pub held_in_lem : (fs : List Finder) → held_in (table_of fs) ≡ fs
@@ -23,14 +23,14 @@ held_of_lem over = refl
 held_of_lem (held fs) = ap held (held_in_lem fs)
 
 module _ (t : Finders) (w : t ≡ table_of (held_in t)) where
-  pub held-length : length (held_in t) ≡ t.count
-  held-length = sym (ap (λ (z : Finders). z.count) w)
+  pub held_length : length (held_in t) ≡ t.count
+  held_length = sym (ap (λ (z : Finders). z.count) w)
 
   table_is : t.table ≡ padded max_finders zero_finder (held_in t)
   table_is = ap (λ (z : Finders). z.table) w
 
-  pub table-length : t.count ≤ max_finders → length t.table ≡ max_finders
-  table-length h = ap length table_is ∙ length-padded max_finders zero_finder (held_in t) (rw held-length h)
+  pub table_length : t.count ≤ max_finders → length t.table ≡ max_finders
+  table_length h = ap length table_is ∙ length-padded max_finders zero_finder (held_in t) (rw held_length h)
 
 pub same_table : (n m : ℕ) (t u : List Finder) → n ≡ m → t ≡ u → ◌≡◌ {A = Finders} (record { count = n; table = t }) (record { count = m; table = u })
 same_table n m t u p q = rw (p, q)
@@ -42,15 +42,15 @@ module _ (t : Finders) (g : Good t) (s : Sighting) (i : ℕ) (e : i ≡ first_wh
 
   few : length fs ≤ max_finders
   unfolding fs
-  few = rw (held-length t g.rest) g.few
+  few = rw (held_length t g.rest) g.few
 
-  pub merged-at : (d v : Finder) → i < t.count → v ≡ join s.x s.y s.pitch (get_or t.table i d)
+  pub merged_at : (d v : Finder) → i < t.count → v ≡ join s.x s.y s.pitch (get_or t.table i d)
       → record { full = false; finders = record { count = t.count; table = set t.table i v } } ≡ merged_of (merge max_finders (held_in t) s)
   unfolding fs
-  merged-at d v h w =
-      let n = held-length t g.rest in
+  merged_at d v h w =
+      let n = held_length t g.rest in
       let l : i < length (held_in t) = rw n h in
-      let q : get_or t.table i d ≡ get_or (held_in t) i d = ap (λ z. get_or z i d) (table_is t g.rest) ∙ getD-padded max_finders zero_finder (held_in t) i d d l in
+      let q : get_or t.table i d ≡ get_or (held_in t) i d = ap (λ z. get_or z i d) (table_is t g.rest) ∙ get_or-padded max_finders zero_finder (held_in t) i d d l in
       let x : v ≡ join s.x s.y s.pitch (get_or (held_in t) i d) = w ∙ ap (join s.x s.y s.pitch) q in
       let k = length-set (held_in t) i v in
       ap (λ z. record { full = false; finders = z })
@@ -58,57 +58,57 @@ module _ (t : Finders) (g : Good t) (s : Sighting) (i : ℕ) (e : i ≡ first_wh
       (ap (λ z. set z i v) (table_is t g.rest) ∙ set-append_left (held_in t) (replicate (max_finders - length (held_in t)) zero_finder) i v l ∙ rw k))
       ∙ ap merged_of (ap (λ z. held (set (held_in t) i z)) x ∙ sym (merge-join s max_finders (held_in t) few i e d l))
 
-  pub merged-new : t.count ≤ i → t.count < max_finders
+  pub merged_new : t.count ≤ i → t.count < max_finders
       → record { full = false; finders = record { count = t.count + 1; table = set t.table t.count (fresh s) } } ≡ merged_of (merge max_finders (held_in t) s)
   unfolding fs
-  merged-new h l =
-      let n = held-length t g.rest in
+  merged_new h l =
+      let n = held_length t g.rest in
       let a : length (held_in t) ≤ i = rw n h in
       let b : length (held_in t) < max_finders = rw n l in
       ap (λ z. record { full = false; finders = z })
       (same_table (t.count + 1) (length (held_in t ++ (fresh s ∷ []))) (set t.table t.count (fresh s)) (padded max_finders zero_finder (held_in t ++ (fresh s ∷ [])))
       (sym (length-append (held_in t) (fresh s ∷ []) ∙ ap (λ z. z + 1) n))
-      (ap (λ z. set z t.count (fresh s)) (table_is t g.rest) ∙ ap (λ z. set (padded max_finders zero_finder (held_in t)) z (fresh s)) (sym n) ∙ padded-more max_finders zero_finder (held_in t) (fresh s) b))
-      ∙ ap merged_of (sym (merge-new s max_finders (held_in t) few i e a b))
+      (ap (λ z. set z t.count (fresh s)) (table_is t g.rest) ∙ ap (λ z. set (padded max_finders zero_finder (held_in t)) z (fresh s)) (sym n) ∙ padded_more max_finders zero_finder (held_in t) (fresh s) b))
+      ∙ ap merged_of (sym (merge_new s max_finders (held_in t) few i e a b))
 
-  pub merged-over : t.count ≤ i → max_finders ≤ t.count → record { full = true; finders = table_of [] } ≡ merged_of (merge max_finders (held_in t) s)
+  pub merged_over : t.count ≤ i → max_finders ≤ t.count → record { full = true; finders = table_of [] } ≡ merged_of (merge max_finders (held_in t) s)
   unfolding fs
-  merged-over h l =
-      let n = held-length t g.rest in
-      ap merged_of (sym (merge-over s max_finders (held_in t) few i e (rw n h) (rw n l)))
+  merged_over h l =
+      let n = held_length t g.rest in
+      ap merged_of (sym (merge_over s max_finders (held_in t) few i e (rw n h) (rw n l)))
 
 pub room_at : (t : Finders) → Good t → (i : ℕ) (d : Finder) → i < t.count → (get_or t.table i d).confirmations + 1 < 2 ^ 32
 room_at t g i d h =
-    let l : i < length (held_in t) = rw (held-length t g.rest) h in
-    let b = each-getD (λ (f : Finder). f.confirmations ≤ 2 ^ 32 - 2) (held_in t) i d g.counts l in
+    let l : i < length (held_in t) = rw (held_length t g.rest) h in
+    let b = each_get_or (λ (f : Finder). f.confirmations ≤ 2 ^ 32 - 2) (held_in t) i d g.counts l in
     omega (arith, rw (get_or-take t.count t.table i d h) at b)
 
 -- ---- a table that is not full
 module _ (t : Merged) (k : ℕ) (s : Sound t k) (e : t.full ≡ false) where
-  pub open-held : held_of t ≡ held (held_in t.finders)
-  open-held = rw e
+  pub open_held : held_of t ≡ held (held_in t.finders)
+  open_held = rw e
 
-  pub open-rest : t.finders ≡ table_of (held_in t.finders)
-  open-rest = ap (λ (z : Merged). z.finders) (s.is ∙ ap merged_of open-held)
+  pub open_rest : t.finders ≡ table_of (held_in t.finders)
+  open_rest = ap (λ (z : Merged). z.finders) (s.is ∙ ap merged_of open_held)
 
-  pub open-fine : (length (held_in t.finders) ≤ max_finders) × Bounded (held_in t.finders) k
-  open-fine = subst (λ z. Fine z k) open-held s.fine
+  pub open_fine : (length (held_in t.finders) ≤ max_finders) × Bounded (held_in t.finders) k
+  open_fine = subst (λ z. Fine z k) open_held s.fine
 
 pub good_of : (t : Merged) → Sound t (2 ^ 32 - 2) → t.full ≡ false → Good t.finders
 good_of t s e =
-    let f = open-fine t (2 ^ 32 - 2) s e in
-    let c : t.finders.count ≡ length (held_in t.finders) = ap (λ (z : Finders). z.count) (open-rest t (2 ^ 32 - 2) s e) in
-    record { few = omega (arith, c, f.0); rest = open-rest t (2 ^ 32 - 2) s e; counts = f.1 }
+    let f = open_fine t (2 ^ 32 - 2) s e in
+    let c : t.finders.count ≡ length (held_in t.finders) = ap (λ (z : Finders). z.count) (open_rest t (2 ^ 32 - 2) s e) in
+    record { few = omega (arith, c, f.0); rest = open_rest t (2 ^ 32 - 2) s e; counts = f.1 }
 
 -- ---- a hit where the table is full, and one where it is not
 module _ (t : Merged) (k : ℕ) (s : Sound t k) (h : Sighting) where
-  pub hit-full : t.full ≡ true → t ≡ merged_of (merge_next max_finders (held_of t) h)
-  hit-full f =
+  pub hit_full : t.full ≡ true → t ≡ merged_of (merge_next max_finders (held_of t) h)
+  hit_full f =
       let o : held_of t ≡ over = rw f in
       s.is ∙ ap merged_of (o ∙ ap (λ z. merge_next max_finders z h) (sym o))
 
-  pub hit-open : t.full ≡ false → (r : Merged) → r ≡ merged_of (merge max_finders (held_in t.finders) h) → r ≡ merged_of (merge_next max_finders (held_of t) h)
-  hit-open f r v = v ∙ ap (λ z. merged_of (merge_next max_finders z h)) (sym (open-held t k s f))
+  pub hit_open : t.full ≡ false → (r : Merged) → r ≡ merged_of (merge max_finders (held_in t.finders) h) → r ≡ merged_of (merge_next max_finders (held_of t) h)
+  hit_open f r v = v ∙ ap (λ z. merged_of (merge_next max_finders z h)) (sym (open_held t k s f))
 
 -- ---- the counts grow by one with a hit
 pub fine_mono : (s : Held) (j k : ℕ) → j ≤ k → Fine s j → Fine s k

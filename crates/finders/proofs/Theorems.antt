@@ -7,7 +7,7 @@ use Rattle.lcr_core.specs.Outcome.{zero_side, large_side}
 use Rattle.binary.specs.Refusal.{short_bits, bits_refusal}
 use Rattle.geometry.specs.declared.Finder.{Finder}
 use Rattle.finders.specs.Held.{Sighting, Held, held, over, within, join, place, merge, merge_next}
-use Rattle.finders.specs.Search.{max_finders, sightings, foundBy, found}
+use Rattle.finders.specs.Search.{max_finders, sightings, found_by, found}
 use Rattle.finders.specs.Rank.{stays, insert, ranked}
 use Rattle.finders.specs.Answer.{is_over, find_refusal, answer_of}
 
@@ -71,6 +71,7 @@ over_only_if limit fs (s ∷ ss) few h = go (leb (length (place fs s)) limit) re
 
 over_if : (limit : ℕ) (fs : List Finder) (ss : List Sighting) → length fs ≤ limit → Overflows limit fs ss → folded (merge_next limit) (held fs) ss ≡ over
 unfolding folded
+over_if limit fs [] few x'' = elim x'' [ ]
 over_if limit fs (s ∷ ss) few (inl r) = rw (full_if limit fs s r.0 r.1) (over_stays limit ss)
 over_if limit fs (s ∷ ss) few (inr r) = go (leb (length (place fs s)) limit) refl (λ k. over_if limit (place fs s) ss k r)
   where
@@ -89,7 +90,7 @@ is_over_lem (held fs) e = absurd (true≢false (sym e))
 
 -- of a picture: `find_finders` answers 6 only where it is not refused by 1, 2 or 4, and a confirmed hit falls within no held finder while 128 are held
 pub six_only_if : (bits : List ℕ) (w h : ℕ) → (answer_of bits w h).refusal ≡ 6 → (bits_refusal (length bits) w h ≡ 0) × Overflows max_finders [] (sightings bits w h)
-unfolding answer_of find_refusal bits_refusal foundBy
+unfolding answer_of find_refusal bits_refusal found_by
 six_only_if bits w h e = go (zero_side w h) (large_side w h) (short_bits (length bits) w h) (is_over (found bits w h)) refl e
   where
     go : (z l s o : Bool) → is_over (found bits w h) ≡ o → first z l s (cond o 6 0) ≡ 6
@@ -102,7 +103,7 @@ six_only_if bits w h e = go (zero_side w h) (large_side w h) (short_bits (length
 
 -- and wherever this is so
 pub six_if : (bits : List ℕ) (w h : ℕ) → bits_refusal (length bits) w h ≡ 0 → Overflows max_finders [] (sightings bits w h) → (answer_of bits w h).refusal ≡ 6
-unfolding answer_of find_refusal bits_refusal foundBy
+unfolding answer_of find_refusal bits_refusal found_by
 six_if bits w h e o = go (zero_side w h) (large_side w h) (short_bits (length bits) w h) (found bits w h) (over_if max_finders [] (sightings bits w h) (omega arith) o) e
   where
     go : (z l s : Bool) (f : Held) → f ≡ over → first z l s 0 ≡ 0 → first z l s (cond (is_over f) 6 0) ≡ 6

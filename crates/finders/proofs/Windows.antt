@@ -1,6 +1,6 @@
 -- The hits of a line, window by window: what is left of them after some runs. Assumes nothing.
 use Rattle.std.proofs.Common.{◌≡◌, ℕ, zero, suc, ◌+◌, ◌-◌, ◌*◌, ◌<◌, ◌≤◌, Bool, true, false, cond, not, ltb, List, [], ◌∷◌, ◌++◌, sym, refl, ap, ◌∙◌, inl, inr, add-zero, eq-or-lt_of_le, arith, ltb-true}
-use mathlib.Core.Bool.{beq, and_false}
+use mathlib.Core.Bool.{beq, and-false}
 use native.Mathlib.Nat.{sub-zero}
 use lib.Ieee.{Float}
 use borrow.Author.Tests.{lt-leb}
@@ -23,16 +23,16 @@ unfolding match_of passes
 first_empty b c d e = go (ltb 0 (0 + b + d + e)) refl
   where
     go : (t : Bool) → ltb 0 (0 + b + d + e) ≡ t → match_of 0 b c d e ≡ Nothing
-    go true h = rw (far_zero (0 + b + d + e) (ltb-true 0 (0 + b + d + e) h), and_false, and_false)
-    go false h = rw (h, and_false, and_false)
+    go true h = rw (far_zero (0 + b + d + e) (ltb-true 0 (0 + b + d + e) h), and-false, and-false)
+    go false h = rw (h, and-false, and-false)
 
 last_empty : (a b c d : ℕ) → match_of a b c d 0 ≡ Nothing
 unfolding match_of passes
 last_empty a b c d = go (ltb 0 (a + b + d + 0)) refl
   where
     go : (t : Bool) → ltb 0 (a + b + d + 0) ≡ t → match_of a b c d 0 ≡ Nothing
-    go true h = rw (far_zero (a + b + d + 0) (ltb-true 0 (a + b + d + 0) h), and_false, and_false, and_false)
-    go false h = rw (h, and_false, and_false)
+    go true h = rw (far_zero (a + b + d + 0) (ltb-true 0 (a + b + d + 0) h), and-false, and-false, and-false)
+    go false h = rw (h, and-false, and-false)
 
 -- ---- the runs of a line start with its first run
 other : (a k : Bool) → beq a k ≡ false → beq a (not k) ≡ true
@@ -97,10 +97,10 @@ pub record Turn (f : ℕ → Bool) (len c d e at l m : ℕ) : Type 0 where
 
 module _ {f : ℕ → Bool} {len c d e at l m : ℕ} (t : Turn f len c d e at l m) where
   -- one window more
-  next-window : (rest : List ℕ) → runs_from f false at (len - at) ≡ l ∷ m ∷ rest
+  next_window : (rest : List ℕ) → runs_from f false at (len - at) ≡ l ∷ m ∷ rest
       → hits (at - (c + d + e)) (c ∷ d ∷ e ∷ runs_from f false at (len - at)) ≡ window (at + l + m) c d e l m ++ hits (at + l + m - (e + l + m)) (e ∷ l ∷ m ∷ rest)
   unfolding hits
-  next-window rest g =
+  next_window rest g =
       let p : at - (c + d + e) + c + d + e + l + m ≡ at + l + m = omega arith in
       let q : at - (c + d + e) + c + d ≡ at + l + m - (e + l + m) = omega arith in
       rw (g, p, q)
@@ -117,16 +117,16 @@ module _ {f : ℕ → Bool} {len c d e at l m : ℕ} (t : Turn f len c d e at l 
       let z : len - (at + l) - m ≡ len - (at + l + m) = omega arith in
       one ∙ ap (λ r. l ∷ r) (after_split f true (at + l) (len - (at + l)) n ∙ rw (← t.dark, z))
 
-  at-end : at + l ≡ len → hits_after f len (win c d e at) ≡ window (at + l + m) c d e l m ++ hits_after f len (win e l m (at + l + m))
+  at_end : at + l ≡ len → hits_after f len (win c d e at) ≡ window (at + l + m) c d e l m ++ hits_after f len (win e l m (at + l + m))
   unfolding hits window run
-  at-end g =
+  at_end g =
       let z : len - (at + l) ≡ 0 = omega arith in
       let o : m ≡ 0 = t.dark ∙ rw z in
       let y : len ≤ at + l + 0 = omega arith in
       rw (one, z, o, last_empty c d e l, remaining_end f len (win e l 0 (at + l + 0)) y)
 
-  remaining-step : hits_after f len (win c d e at) ≡ window (at + l + m) c d e l m ++ hits_after f len (win e l m (at + l + m))
-  remaining-step = elim (eq-or-lt_of_le t.bound) [ inl g ↦ at-end g | inr g ↦ next-window (runs_from f false (at + l + m) (len - (at + l + m))) (two g) ]
+  remaining_step : hits_after f len (win c d e at) ≡ window (at + l + m) c d e l m ++ hits_after f len (win e l m (at + l + m))
+  remaining_step = elim (eq-or-lt_of_le t.bound) [ inl g ↦ at_end g | inr g ↦ next_window (runs_from f false (at + l + m) (len - (at + l + m))) (two g) ]
 
   -- a turn passes a pixel at least
   pub progress : 0 < l + m
@@ -149,12 +149,12 @@ module _ {f : ℕ → Bool} {len c d e at l m : ℕ} (t : Turn f len c d e at l 
 
   -- one more hit, or none
   module _ (r : Match) (R : r ≡ match_of c d e l m) where
-    pub hits-hit : (p : Float) → r ≡ Module p
+    pub hits_hit : (p : Float) → r ≡ Module p
         → hits_after f len (win c d e at)
         ≡ record { centre = minus32 (minus32 (minus32 (whole32 (at + l + m)) (whole32 m)) (whole32 l)) (over32 (whole32 e) f2); pitch = p } ∷ hits_after f len (win e l m (at + l + m))
     unfolding window
-    hits-hit p g = remaining-step ∙ rw (← R, g)
+    hits_hit p g = remaining_step ∙ rw (← R, g)
 
-    pub hits-skip : r ≡ Nothing → hits_after f len (win c d e at) ≡ hits_after f len (win e l m (at + l + m))
+    pub hits_skip : r ≡ Nothing → hits_after f len (win c d e at) ≡ hits_after f len (win e l m (at + l + m))
     unfolding window
-    hits-skip g = remaining-step ∙ rw (← R, g)
+    hits_skip g = remaining_step ∙ rw (← R, g)

@@ -83,30 +83,30 @@ line_count width height false = height
 
 module _ (bits : List ℕ) (width height : ℕ) where
   -- the confirmed hits of a line
-  abbrev pub lineSightings : Line → List Sighting
-  lineSightings l = flat_map (seen bits width height l.columns l.number) (line_hits (pixel bits l.start l.stride) l.len)
+  abbrev pub line_sightings : Line → List Sighting
+  line_sightings l = flat_map (seen bits width height l.columns l.number) (line_hits (pixel bits l.start l.stride) l.len)
 
   -- those after a window
-  abbrev pub sightingsAfter : Line → Window → List Sighting
-  sightingsAfter l w = flat_map (seen bits width height l.columns l.number) (hits_after (pixel bits l.start l.stride) l.len w)
+  abbrev pub sightings_after : Line → Window → List Sighting
+  sightings_after l w = flat_map (seen bits width height l.columns l.number) (hits_after (pixel bits l.start l.stride) l.len w)
 
   -- the first of them, with the window that it ends
   abbrev pub SightedIs : Line → Window → Sighted → Type 0
-  SightedIs l w sighted.End = sightingsAfter l w ≡ []
+  SightedIs l w sighted.End = sightings_after l w ≡ []
   SightedIs l w (sighted.At x y m v) =
-      (sightingsAfter l w ≡ record { x = x; y = y; pitch = m } ∷ sightingsAfter l v)
+      (sightings_after l w ≡ record { x = x; y = y; pitch = m } ∷ sightings_after l v)
       × (w.at < v.at) × (v.at ≤ l.len) × (v.c + v.d + v.e ≤ v.at)
 
   -- after those of a line
   abbrev pub scanned : Held → Line → Held
-  scanned s l = folded (merge_next max_finders) s (lineSightings l)
+  scanned s l = folded (merge_next max_finders) s (line_sightings l)
 
   -- after those of every second line of the axis
-  abbrev pub scannedAt : Bool → Held → ℕ → Held
-  scannedAt columns s k = scanned s (line_at width height columns (2 * k))
+  abbrev pub scanned_at : Bool → Held → ℕ → Held
+  scanned_at columns s k = scanned s (line_at width height columns (2 * k))
 
   unfoldable pub axis : Bool → Held → Held
-  axis columns s = folded (scannedAt columns) s (range 0 ((line_count width height columns + 1) / 2))
+  axis columns s = folded (scanned_at columns) s (range 0 ((line_count width height columns + 1) / 2))
 
 -- ---- the ranking
 -- the place at which `insert` puts a finder with n confirmations

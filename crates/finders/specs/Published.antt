@@ -5,24 +5,24 @@ use Rattle.std.specs.Prelude.{◌≡◌, ℕ, ◌*◌, ◌<◌, Bool, true, fals
 use Rattle.lists.specs.Lists.{Each}
 use Rattle.binary.specs.Line.{row, column}
 use Rattle.confirm.specs.Confirm.{counted_of}
-use Rattle.confirm.specs.Published.{counted_on, cutOn}
+use Rattle.confirm.specs.Published.{counted_on, cut_on}
 use Rattle.confirm.specs.declared.Confirmed.TheVariants.{Point}
 use Rattle.geometry.specs.declared.Finder.{Finder}
 use Rattle.finders.specs.Hits.{Hit, line_hits}
 use Rattle.finders.specs.Held.{Sighting}
-use Rattle.finders.specs.Search.{sightingsBy, foundBy}
+use Rattle.finders.specs.Search.{sightings_by, found_by}
 use Rattle.finders.specs.Answer.{refusal_after, finders_after, answer_after}
 use Rattle.finders.specs.declared.Found.{Found}
 
 -- document 000's confirmed hits, finders and answer; the sides' limit and that of the table are document 01's
 abbrev pub published_sightings : List ℕ → ℕ → ℕ → List Sighting
-published_sightings = sightingsBy counted_of
+published_sightings = sightings_by counted_of
 
 abbrev pub published_finders : List ℕ → ℕ → ℕ → List Finder
-published_finders bits width height = finders_after (foundBy counted_of bits width height)
+published_finders bits width height = finders_after (found_by counted_of bits width height)
 
 abbrev pub published_refusal : List ℕ → ℕ → ℕ → ℕ
-published_refusal bits width height = refusal_after (length bits) width height (foundBy counted_of bits width height)
+published_refusal bits width height = refusal_after (length bits) width height (found_by counted_of bits width height)
 
 abbrev pub published_answer : List ℕ → ℕ → ℕ → Found
 published_answer bits width height = answer_after (published_refusal bits width height) (published_finders bits width height)
@@ -31,7 +31,7 @@ published_answer bits width height = answer_after (published_refusal bits width 
 module _ (bits : List ℕ) (width height : ℕ) where
   -- a hit of row n, or of column n: where document 000 confirms it, the limit ended no run of either confirmation
   abbrev pub Uncut : Bool → ℕ → Hit → Type 0
-  Uncut columns n h = (x y : Float) → counted_on bits width height columns n h.centre h.pitch ≡ Point x y → cutOn bits width height columns n h.centre h.pitch ≡ false
+  Uncut columns n h = (x y : Float) → counted_on bits width height columns n h.centre h.pitch ≡ Point x y → cut_on bits width height columns n h.centre h.pitch ≡ false
 
   -- each hit of every second row, and of every second column
   pub record NoneCut : Type 0 where

@@ -2,7 +2,7 @@
 use Rattle.std.specs.Prelude.{ℕ, ◌+◌, ◌*◌, ◌/◌, Bool, true, false, List, [], ◌∷◌, ◌++◌, Float}
 use Rattle.lists.specs.Lists.{range, folded, flat_map}
 use Rattle.binary.specs.Line.{row, column}
-use Rattle.confirm.specs.Confirm.{Rule, core_of, confirmedBy}
+use Rattle.confirm.specs.Confirm.{Rule, core_of, confirmed_by}
 use Rattle.confirm.specs.declared.Confirmed.{Confirmed}
 use Rattle.confirm.specs.declared.Confirmed.TheVariants.{Point, Nothing}
 use Rattle.finders.specs.Hits.{Hit, line_hits}
@@ -24,30 +24,30 @@ every_second f n = flat_map (λ k. f (2 * k)) (range 0 ((n + 1) / 2))
 -- the search with a rule of confirmation
 module _ (rule : Rule) (bits : List ℕ) (width height : ℕ) where
   -- a hit on row n, or on column n
-  abbrev pub seenBy : Bool → ℕ → Hit → List Sighting
-  seenBy columns n h = sighting h.pitch (confirmedBy rule bits width height columns n h.centre h.pitch)
+  abbrev pub seen_by : Bool → ℕ → Hit → List Sighting
+  seen_by columns n h = sighting h.pitch (confirmed_by rule bits width height columns n h.centre h.pitch)
 
   -- the confirmed hits of row y, and of column x
-  abbrev pub rowSightingsBy : ℕ → List Sighting
-  rowSightingsBy y = flat_map (seenBy false y) (line_hits (row bits width y) width)
+  abbrev pub row_sightings_by : ℕ → List Sighting
+  row_sightings_by y = flat_map (seen_by false y) (line_hits (row bits width y) width)
 
-  abbrev pub columnSightingsBy : ℕ → List Sighting
-  columnSightingsBy x = flat_map (seenBy true x) (line_hits (column bits width x) height)
+  abbrev pub column_sightings_by : ℕ → List Sighting
+  column_sightings_by x = flat_map (seen_by true x) (line_hits (column bits width x) height)
 
   -- those of the picture, in the order in which they are found
-  unfoldable pub sightingsBy : List Sighting
-  sightingsBy = every_second rowSightingsBy height ++ every_second columnSightingsBy width
+  unfoldable pub sightings_by : List Sighting
+  sightings_by = every_second row_sightings_by height ++ every_second column_sightings_by width
 
   -- the finders after the last of them
-  unfoldable pub foundBy : Held
-  foundBy = folded (merge_next max_finders) (held []) sightingsBy
+  unfoldable pub found_by : Held
+  found_by = folded (merge_next max_finders) (held []) sightings_by
 
 -- with the amended rule, which the detector has
 abbrev pub seen : List ℕ → ℕ → ℕ → Bool → ℕ → Hit → List Sighting
-seen = seenBy core_of
+seen = seen_by core_of
 
 abbrev pub sightings : List ℕ → ℕ → ℕ → List Sighting
-sightings = sightingsBy core_of
+sightings = sightings_by core_of
 
 abbrev pub found : List ℕ → ℕ → ℕ → Held
-found = foundBy core_of
+found = found_by core_of

@@ -10,7 +10,7 @@ use crate::{Finders, no_finders};
 use geometry::Finder;
 
 // `full` where one finder more would be held than there are places; then the table is empty.
-#[derive(Drop)]
+#[derive(Clone, Copy)]
 pub struct Merged {
     pub full: bool,
     pub finders: Finders,

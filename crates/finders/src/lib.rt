@@ -1,4 +1,6 @@
 // The finder search: runs of 1:1:3:1:1 in a bit picture, along rows and columns, confirmed on both axes and merged.
+#![tactic(auto)]
+
 ghost use Rattle.std.specs.Prelude.{◌≡◌, []};
 ghost use Rattle.lcr_core.specs.Passed.{Sides};
 ghost use Rattle.finders.specs.Search.{found};
@@ -19,14 +21,14 @@ mod search;
 pub const MAX_FINDERS: usize = 128;
 
 // So many finders; the places beyond the count are zero.
-#[derive(Drop)]
+#[derive(Clone, Copy)]
 pub struct Finders {
     pub count: usize,
     pub table: [Finder; MAX_FINDERS],
 }
 
 // Refusal 0 with the finders, or a refusal with none.
-#[derive(Drop)]
+#[derive(Clone, Copy)]
 pub struct Found {
     pub refusal: u8,
     pub finders: Finders,

@@ -13,7 +13,7 @@ use confirm::{Confirmed, confirm_hit};
 use ratio::Match;
 
 // A line to scan: row or column `number`, its pixels `start`, `start + stride` and so on, `len` of them.
-#[derive(Drop)]
+#[derive(Clone, Copy)]
 pub struct Line {
     pub columns: bool,
     pub number: u16,
@@ -23,7 +23,7 @@ pub struct Line {
 }
 
 // The last three runs of a line before pixel `at`, the last a dark one.
-#[derive(Drop)]
+#[derive(Clone, Copy)]
 pub struct Window {
     pub c: u16,
     pub d: u16,
@@ -32,14 +32,14 @@ pub struct Window {
 }
 
 // A hit's centre and module, and the window after it.
-#[derive(Drop)]
+#[derive(Clone, Copy)]
 pub enum Next {
     Hit(f32, f32, Window),
     End,
 }
 
 // A confirmed hit's x, y and module, and the window after it.
-#[derive(Drop)]
+#[derive(Clone, Copy)]
 pub enum Sighted {
     At(f32, f32, f32, Window),
     End,

@@ -9,7 +9,7 @@ use lib.Ieee.{Float, nan, binary32, binary64, to_bits}
 use Rattle.lists.specs.Lists.{flat_map}
 use Rattle.lists.proofs.Tabulate.{length-tabulate, get_d_tabulate}
 use Rattle.little_endian.specs.Bytes.{bytes_le, put}
-use Rattle.little_endian.proofs.Pieces.{put_then, length-flat, piece-more}
+use Rattle.little_endian.proofs.Pieces.{put_then, length_flat, piece_more}
 use Rattle.little_endian.proofs.Round.{length_bytes}
 use Rattle.transform.specs.declared.Transform.{Transform}
 use Rattle.geometry.specs.declared.Finder.{Finder}
@@ -49,7 +49,7 @@ length_marker (At p) = length-flagged 1 (to_bits binary32 p.x) (to_bits binary32
 length_marker Missing = length-flagged 0 0 0
 
 pub length_transform : (t : Transform) → length (transform_bytes t) ≡ 64
-length_transform t = length-flat double_bytes 8 length_double (numbers_of t) ∙ rw (length-tabulate 8 (λ i. get_or t.m i nan))
+length_transform t = length_flat double_bytes 8 length_double (numbers_of t) ∙ rw (length-tabulate 8 (λ i. get_or t.m i nan))
 
 -- ---- the parts
 
@@ -107,7 +107,7 @@ pub number_more : (t : Transform) (base k : ℕ) (l out : List ℕ) → k < 8 �
 number_more t base k l out h e =
     let f : ℕ → Float = λ i. get_or t.m i nan in
     let n : k < length (numbers_of t) = rw (length-tabulate 8 f) h in
-    ap (λ x. put (double_bytes x) (base + 8 * k) out) (sym (get_d_tabulate 8 f k nan h)) ∙ piece-more double_bytes 8 length_double (numbers_of t) base k nan l out n e
+    ap (λ x. put (double_bytes x) (base + 8 * k) out) (sym (get_d_tabulate 8 f k nan h)) ∙ piece_more double_bytes 8 length_double (numbers_of t) base k nan l out n e
 
 pub all_numbers : (t : Transform) (k base : ℕ) (l : List ℕ) → k ≡ 8 → put (flat_map double_bytes (take k (numbers_of t))) base l ≡ put (transform_bytes t) base l
 all_numbers t k base l e = ap (λ z. put (flat_map double_bytes z) base l) (take_all k (numbers_of t) (omega (arith, length-tabulate 8 (λ i. get_or t.m i nan))))

@@ -7,11 +7,11 @@ use native.Mathlib.Omega.{arith}
 use lib.ListN.{length, replicate}
 use lib.Ieee.{Float, to_bits, of_bits}
 use Rattle.lists.specs.Lists.{padded, tabulate, flat_map}
-use Rattle.lists.proofs.Folds.{flatMap-append}
+use Rattle.lists.proofs.Folds.{flat_map-append}
 use Rattle.lists.proofs.Padded.{length-padded}
 use Rattle.lcr_core.specs.Outcome.{unless}
 use Rattle.little_endian.specs.Bytes.{bytes_le}
-use Rattle.little_endian.proofs.Pieces.{length-flat}
+use Rattle.little_endian.proofs.Pieces.{length_flat}
 use Rattle.finders.specs.Answer.{find_refusal, finders_of}
 use Rattle.candidates.specs.declared.Detection.{Detection}
 use Rattle.candidates.specs.declared.Detections.{Detections}
@@ -40,7 +40,7 @@ unbent d cx cy strength = refl
 -- a table of three has 367 bytes
 pub length_firmware : (t : Detections) → length t.at ≡ 3 → length (firmware_bytes t) ≡ firmware_size
 unfolding firmware_bytes bytes_le
-length_firmware t e = ap suc (length-flat detection_bytes detection_size length_detection t.at ∙ ap (λ z. detection_size * z) e)
+length_firmware t e = ap suc (length_flat detection_bytes detection_size length_detection t.at ∙ ap (λ z. detection_size * z) e)
 
 -- so has every answer, as that for a picture of bits
 answered_bytes : (n : ℕ) (ds : List Detection) → length ds ≤ 3 → length (firmware_bytes (answered n ds).detections) ≡ firmware_size
@@ -70,5 +70,5 @@ pub missing_zero : (ds : List Detection) → length ds ≤ 3 → firmware_bytes 
 unfolding firmware_bytes bytes_le
 missing_zero ds h =
     let n : length ds % 256 ≡ length ds = omega arith in
-    let k : detection_size * (3 - length ds) ≡ firmware_size - suc (length (flat_map detection_bytes ds)) = omega (arith, length-flat detection_bytes detection_size length_detection ds) in
-    rw n (ap (λ l. length ds ∷ l) (flatMap-append detection_bytes ds (replicate (3 - length ds) zero_detection) ∙ ap (λ l. flat_map detection_bytes ds ++ l) (none-zero (3 - length ds) ∙ ap (λ n. replicate n 0) k)))
+    let k : detection_size * (3 - length ds) ≡ firmware_size - suc (length (flat_map detection_bytes ds)) = omega (arith, length_flat detection_bytes detection_size length_detection ds) in
+    rw n (ap (λ l. length ds ∷ l) (flat_map-append detection_bytes ds (replicate (3 - length ds) zero_detection) ∙ ap (λ l. flat_map detection_bytes ds ++ l) (none-zero (3 - length ds) ∙ ap (λ n. replicate n 0) k)))

@@ -1,4 +1,6 @@
 // The detections as bytes for the unit's firmware.
+#![tactic(auto)]
+
 ghost use Rattle.std.specs.Prelude.{◌≡◌, ◌^◌, ◌<◌};
 ghost use Rattle.little_endian.specs.Bytes.{put};
 ghost use Rattle.firmware.specs.Firmware.{finder_bytes, marker_bytes, transform_bytes, detection_bytes, firmware_bytes};

@@ -38,11 +38,11 @@ sig-lt f a = pick (ltb a (hid f)) (ltb→lt a (hid f)) (digit f a)
     pick false k d = d.0
 
 pub sig_ge : (f : Format) (a : ℕ) → hid f ≤ a → hid f ≤ sig f a
-sig_ge f a h = subst (λ (t : Bool). hid f ≤ cond t a (hid f + a % hid f)) (sym (le-ltb a (hid f) h)) (lead-in f a)
+sig_ge f a h = subst (λ (t : Bool). hid f ≤ cond t a (hid f + a % hid f)) (sym (le-ltb a (hid f) h)) (lead_in f a)
   where
-    lead-in : (f : Format) (a : ℕ) → hid f ≤ hid f + a % hid f
-    lead-in binary32 a = omega arith
-    lead-in binary64 a = omega arith
+    lead_in : (f : Format) (a : ℕ) → hid f ≤ hid f + a % hid f
+    lead_in binary32 a = omega arith
+    lead_in binary64 a = omega arith
 
 pub sig_pos : (f : Format) (a : ℕ) → 0 < a → 0 < sig f a
 sig_pos f a h = go (ltb a (hid f)) (ltb→lt a (hid f))

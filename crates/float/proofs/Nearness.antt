@@ -1,6 +1,6 @@
 -- What `round` gives, said without its method, for both formats. num / den is n / den of the format's smallest value, and the result is v of it:
--- no value of the format is nearer, and of two as near the result is the one whose pattern is even (`round-near`). From the middle
--- between the largest value and the power of two above it on it is an infinity (`round-value`, `round-over`). Assumes nothing.
+-- no value of the format is nearer, and of two as near the result is the one whose pattern is even (`round_near`). From the middle
+-- between the largest value and the power of two above it on it is an infinity (`round_value`, `round_over`). Assumes nothing.
 use mathlib.Core.Path.{◌≡◌, refl, sym, ap, ◌∙◌, subst}
 use mathlib.Core.Logic.{◌⊎◌, inl, inr}
 use Prim.Native.Nat.{ℕ, suc, ◌+◌, ◌-◌, ◌*◌, ◌/◌, ◌%◌, ◌^◌, ◌≤◌, ◌<◌, compare, min, Ordering}
@@ -38,8 +38,8 @@ module _ (n u w : ℕ) (U : 0 < u) (beside : (w ≤ n / u * u) ⊎ (n / u * u + 
   abbrev Near : ℕ → Type 0
   Near q = (dist n (q * u) ≤ dist n w) × (dist n (q * u) ≡ dist n w → (w ≡ q * u) ⊎ (q % 2 ≡ 0))
 
-  closest-near : Near (closest n u)
-  closest-near = go (compare (n % u * 2) u) (cmp (n % u * 2) u)
+  closest_near : Near (closest n u)
+  closest_near = go (compare (n % u * 2) u) (cmp (n % u * 2) u)
     where
       q : ℕ
       q = n / u
@@ -67,7 +67,7 @@ module _ (n u w : ℕ) (U : 0 < u) (beside : (w ≤ n / u * u) ⊎ (n / u * u + 
 
 -- ---- n to the nearest multiple of 2g, against the middle g below P * 2g
 closest_lt : (n g P : ℕ) → 0 < g → n + g < P * (g * 2) → closest n (g * 2) < P
-closest_lt n g P G h = go (eq-or-lt_of_le q-lt)
+closest_lt n g P G h = go (eq-or-lt_of_le q_lt)
   where
     u : ℕ
     u = g * 2
@@ -75,8 +75,8 @@ closest_lt n g P G h = go (eq-or-lt_of_le q-lt)
     q : ℕ
     q = n / u
 
-    q-lt : q < P
-    q-lt = (div-lt_iff_lt-mul (mul-pos G (zero-lt-suc 1))).1 (lt_of_le_of_lt (less n g) h)
+    q_lt : q < P
+    q_lt = (div-lt_iff_lt-mul (mul-pos G (zero-lt-suc 1))).1 (lt_of_le_of_lt (less n g) h)
       where
         less : (n g : ℕ) → n ≤ n + g
         less n g = omega arith
@@ -96,7 +96,7 @@ closest_lt n g P G h = go (eq-or-lt_of_le q-lt)
     go : (suc q ≡ P) ⊎ (suc q < P) → closest n u < P
     go (inr l) = lt_of_le_of_lt (nearest-le q (compare (n % u * 2) u)) l
     go (inl e) =
-        lt_of_le_of_lt (le_of_eq (stay (compare (n % u * 2) u) (cmp (n % u * 2) u) (rest n g (q * u) (n % u) (div-add-mod' n u) (subst (λ (x : ℕ). n + g < x) (sym (ap (λ (x : ℕ). x * u) e) ∙ suc-mul q u ∙ turn (q * u) u) h)))) q-lt
+        lt_of_le_of_lt (le_of_eq (stay (compare (n % u * 2) u) (cmp (n % u * 2) u) (rest n g (q * u) (n % u) (div-add-mod' n u) (subst (λ (x : ℕ). n + g < x) (sym (ap (λ (x : ℕ). x * u) e) ∙ suc-mul q u ∙ turn (q * u) u) h)))) q_lt
       where
         turn : (a b : ℕ) → a + b ≡ b + a
         turn a b = omega arith
@@ -113,8 +113,8 @@ closest_ge n g P G even some h = go (ltb q P) (ltb→lt q P) (nltb→le q P)
     pred : (P : ℕ) → 0 < P → P ≡ suc (P - 1)
     pred P h = omega arith
 
-    q-ge : P - 1 ≤ q
-    q-ge = (le-div_iff_mul-le (mul-pos G (zero-lt-suc 1))).1 (less ((P - 1) * u) n g (subst (λ (x : ℕ). x ≤ n + g) (ap (λ (x : ℕ). x * u) (pred P some) ∙ suc-mul (P - 1) u) h))
+    q_ge : P - 1 ≤ q
+    q_ge = (le-div_iff_mul-le (mul-pos G (zero-lt-suc 1))).1 (less ((P - 1) * u) n g (subst (λ (x : ℕ). x ≤ n + g) (ap (λ (x : ℕ). x * u) (pred P some) ∙ suc-mul (P - 1) u) h))
       where
         less : (y n g : ℕ) → y + g * 2 ≤ n + g → y ≤ n
         less y n g h = omega arith
@@ -122,8 +122,8 @@ closest_ge n g P G even some h = go (ltb q P) (ltb→lt q P) (nltb→le q P)
     last : (q P : ℕ) → P - 1 ≤ q → q < P → suc q ≡ P
     last q P a b = omega arith
 
-    odd-one : (q P : ℕ) → suc q ≡ P → P % 2 ≡ 0 → q % 2 ≡ 1
-    odd-one q P e h = omega arith
+    odd_one : (q P : ℕ) → suc q ≡ P → P % 2 ≡ 0 → q % 2 ≡ 1
+    odd_one q P e h = omega arith
 
     rest : (n g y r : ℕ) → y + r ≡ n → y + g * 2 ≤ n + g → g * 2 ≤ r * 2
     rest n g y r e h = omega arith
@@ -131,12 +131,12 @@ closest_ge n g P G even some h = go (ltb q P) (ltb→lt q P) (nltb→le q P)
     step : suc q ≡ P → (o : Ordering) → Cmp o (n % u * 2) u → u ≤ n % u * 2 → P ≤ nearest q o
     step e Ordering.lt c l = absurd (not-le_of_lt c l)
     step e Ordering.gt c l = le_of_eq (sym e)
-    step e Ordering.eq c l = le_of_eq (sym ((plus_bit q (q % 2) refl).2 (odd-one q P e even) ∙ e))
+    step e Ordering.eq c l = le_of_eq (sym ((plus_bit q (q % 2) refl).2 (odd_one q P e even) ∙ e))
 
     go : (t : Bool) → (T t → q < P) → (T (not t) → P ≤ q) → P ≤ closest n u
     go false a b = le_trans (b tt) (nearest-ge q (compare (n % u * 2) u))
     go true a b =
-        let e = last q P q-ge (a tt) in
+        let e = last q P q_ge (a tt) in
         step e (compare (n % u * 2) u) (cmp (n % u * 2) u)
         (rest n g (q * u) (n % u) (div-add-mod' n u) (subst (λ (x : ℕ). x ≤ n + g) (ap (λ (x : ℕ). x * u) (sym e) ∙ suc-mul q u) h))
 
@@ -172,103 +172,103 @@ number (fin t m e) s v c h = tt
 
 -- ---- num / den in units of the smallest value, and what `round` makes of it
 module _ (f : Format) (s : Bool) (num den : ℕ) (D : 0 < den) where
-  abbrev n-of : ℕ
-  n-of = num * 2 ^ low f
+  abbrev n_of : ℕ
+  n_of = num * 2 ^ low f
 
-  abbrev k-of : ℕ
-  k-of = drop (prec f) n-of den
+  abbrev k_of : ℕ
+  k_of = drop (prec f) n_of den
 
-  abbrev q-of : ℕ
-  q-of = kept (prec f) n-of den
+  abbrev q_of : ℕ
+  q_of = kept (prec f) n_of den
 
-  abbrev pub v-of : ℕ
-  v-of = q-of * 2 ^ k-of
+  abbrev pub v_of : ℕ
+  v_of = q_of * 2 ^ k_of
 
-  in-units : (q : ℕ) → q * (den * 2 ^ k-of) ≡ q * 2 ^ k-of * den
-  in-units q = ap (λ (x : ℕ). q * x) (mul_comm den (2 ^ k-of)) ∙ sym (mul_assoc q (2 ^ k-of) den)
+  in_units : (q : ℕ) → q * (den * 2 ^ k_of) ≡ q * 2 ^ k_of * den
+  in_units q = ap (λ (x : ℕ). q * x) (mul_comm den (2 ^ k_of)) ∙ sym (mul_assoc q (2 ^ k_of) den)
 
   -- no value of the format is between the two multiples of the unit beside num / den
-  beside : (m j : ℕ) → m < 2 ^ prec f → (m * 2 ^ j * den ≤ n-of / (den * 2 ^ k-of) * (den * 2 ^ k-of)) ⊎ (n-of / (den * 2 ^ k-of) * (den * 2 ^ k-of) + den * 2 ^ k-of ≤ m * 2 ^ j * den)
-  beside m j M = go (ltb (q * 2 ^ k-of) (m * 2 ^ j)) (ltb→lt (q * 2 ^ k-of) (m * 2 ^ j)) (nltb→le (q * 2 ^ k-of) (m * 2 ^ j))
+  beside : (m j : ℕ) → m < 2 ^ prec f → (m * 2 ^ j * den ≤ n_of / (den * 2 ^ k_of) * (den * 2 ^ k_of)) ⊎ (n_of / (den * 2 ^ k_of) * (den * 2 ^ k_of) + den * 2 ^ k_of ≤ m * 2 ^ j * den)
+  beside m j M = go (ltb (q * 2 ^ k_of) (m * 2 ^ j)) (ltb→lt (q * 2 ^ k_of) (m * 2 ^ j)) (nltb→le (q * 2 ^ k_of) (m * 2 ^ j))
     where
       q : ℕ
-      q = n-of / (den * 2 ^ k-of)
+      q = n_of / (den * 2 ^ k_of)
 
-      go : (t : Bool) → (T t → q * 2 ^ k-of < m * 2 ^ j) → (T (not t) → m * 2 ^ j ≤ q * 2 ^ k-of) → (m * 2 ^ j * den ≤ q * (den * 2 ^ k-of)) ⊎ (q * (den * 2 ^ k-of) + den * 2 ^ k-of ≤ m * 2 ^ j * den)
-      go false a b = inl (le_trans (mul-le-mul_right den (b tt)) (le_of_eq (sym (in-units q))))
-      go true a b = inr (le_trans (le_of_eq (next q (den * 2 ^ k-of) ∙ in-units (q + 1))) (mul-le-mul_right den (gap (prec f) q k-of m j (two-le_pos (prec f) (two f)) (all_digits f n-of den) M (a tt))))
+      go : (t : Bool) → (T t → q * 2 ^ k_of < m * 2 ^ j) → (T (not t) → m * 2 ^ j ≤ q * 2 ^ k_of) → (m * 2 ^ j * den ≤ q * (den * 2 ^ k_of)) ⊎ (q * (den * 2 ^ k_of) + den * 2 ^ k_of ≤ m * 2 ^ j * den)
+      go false a b = inl (le_trans (mul-le-mul_right den (b tt)) (le_of_eq (sym (in_units q))))
+      go true a b = inr (le_trans (le_of_eq (next q (den * 2 ^ k_of) ∙ in_units (q + 1))) (mul-le-mul_right den (gap (prec f) q k_of m j (two-le_pos (prec f) (two f)) (all_digits f n_of den) M (a tt))))
         where
           next : (q u : ℕ) → q * u + u ≡ (q + 1) * u
           next q u = omega arith
 
   kept_near : (y : Float) (t : Bool) (w : ℕ) → T (fits f y) → HasValue y t w (2 ^ low f)
-      → (dist n-of (v-of * den) ≤ dist n-of (w * den)) × (dist n-of (v-of * den) ≡ dist n-of (w * den) → (w ≡ v-of) ⊎ (q-of % 2 ≡ 0))
+      → (dist n_of (v_of * den) ≤ dist n_of (w * den)) × (dist n_of (v_of * den) ≡ dist n_of (w * den) → (w ≡ v_of) ⊎ (q_of % 2 ≡ 0))
   kept_near y t w p h =
       let z = size_of f y t w p h in
       let a = z.0 in
-      let g = closest-near n-of (den * 2 ^ k-of) (val f a * den) (mul-pos D (pow_pos k-of)) (beside (sig f a) (expo f a) (sig-lt f a)) in
-      let is : q-of * (den * 2 ^ k-of) ≡ v-of * den = in-units q-of in
-      subst (λ (w : ℕ). (dist n-of (v-of * den) ≤ dist n-of (w * den)) × (dist n-of (v-of * den) ≡ dist n-of (w * den) → (w ≡ v-of) ⊎ (q-of % 2 ≡ 0))) (sym z.2) (
-        subst (λ (x : ℕ). dist n-of x ≤ dist n-of (val f a * den)) is g.0,
-        λ d. elim (g.1 (ap (dist n-of) is ∙ d)) [
-          | inl e ↦ inl (eq_of_mul-eq-mul_right den D (val f a) v-of (e ∙ is))
+      let g = closest_near n_of (den * 2 ^ k_of) (val f a * den) (mul-pos D (pow_pos k_of)) (beside (sig f a) (expo f a) (sig-lt f a)) in
+      let is : q_of * (den * 2 ^ k_of) ≡ v_of * den = in_units q_of in
+      subst (λ (w : ℕ). (dist n_of (v_of * den) ≤ dist n_of (w * den)) × (dist n_of (v_of * den) ≡ dist n_of (w * den) → (w ≡ v_of) ⊎ (q_of % 2 ≡ 0))) (sym z.2) (
+        subst (λ (x : ℕ). dist n_of x ≤ dist n_of (val f a * den)) is g.0,
+        λ d. elim (g.1 (ap (dist n_of) is ∙ d)) [
+          | inl e ↦ inl (eq_of_mul-eq-mul_right den D (val f a) v_of (e ∙ is))
           | inr e ↦ inr e
         ],
       )
 
   -- ---- below the edge of the format, and from there on
   abbrev Below : Type 0
-  Below = n-of + edge f * den < limit f * den
+  Below = n_of + edge f * den < limit f * den
 
   abbrev Beyond : Type 0
-  Beyond = limit f * den ≤ n-of + edge f * den
+  Beyond = limit f * den ≤ n_of + edge f * den
 
-  limit-edge : limit f * den ≡ 2 ^ prec f * (edge f * den * 2)
-  limit-edge = ap (λ (x : ℕ). x * den) (sym (limit_is f) ∙ ap (λ (x : ℕ). 2 ^ prec f * x) (unit_is f)) ∙ turn (2 ^ prec f) (edge f) den
+  limit_edge : limit f * den ≡ 2 ^ prec f * (edge f * den * 2)
+  limit_edge = ap (λ (x : ℕ). x * den) (sym (limit_is f) ∙ ap (λ (x : ℕ). 2 ^ prec f * x) (unit_is f)) ∙ turn (2 ^ prec f) (edge f) den
     where
       turn : (p g d : ℕ) → p * (g * 2) * d ≡ p * (g * d * 2)
       turn p g d = omega arith
 
-  edge-pos : 0 < edge f * den
-  edge-pos = mul-pos (pow_pos (ones f - 3)) D
+  edge_pos : 0 < edge f * den
+  edge_pos = mul-pos (pow_pos (ones f - 3)) D
 
   -- what is dropped there
-  few : n-of < limit f * den → k-of ≤ ones f - 2
-  few h = less f (size (n-of / den)) (size-le (n-of / den) (low f + suc (emax f)) ((div-lt_iff_lt-mul D).1 h))
+  few : n_of < limit f * den → k_of ≤ ones f - 2
+  few h = less f (size (n_of / den)) (size-le (n_of / den) (low f + suc (emax f)) ((div-lt_iff_lt-mul D).1 h))
     where
       less : (f : Format) (z : ℕ) → z ≤ low f + suc (emax f) → z - prec f ≤ ones f - 2
       less binary32 z h = omega arith
       less binary64 z h = omega arith
 
-  unit-at : k-of ≡ ones f - 2 → den * 2 ^ k-of ≡ edge f * den * 2
-  unit-at e = ap (λ (x : ℕ). den * 2 ^ x) e ∙ ap (λ (x : ℕ). den * x) (unit_is f) ∙ turn den (edge f)
+  unit_at : k_of ≡ ones f - 2 → den * 2 ^ k_of ≡ edge f * den * 2
+  unit_at e = ap (λ (x : ℕ). den * 2 ^ x) e ∙ ap (λ (x : ℕ). den * x) (unit_is f) ∙ turn den (edge f)
     where
       turn : (d g : ℕ) → d * (g * 2) ≡ g * d * 2
       turn d g = omega arith
 
-  below-limit : Below → v-of < limit f
-  below-limit h = go (eq-or-lt_of_le (few (lt_of_le_of_lt (less n-of (edge f * den)) h)))
+  below_limit : Below → v_of < limit f
+  below_limit h = go (eq-or-lt_of_le (few (lt_of_le_of_lt (less n_of (edge f * den)) h)))
     where
       less : (n g : ℕ) → n ≤ n + g
       less n g = omega arith
 
-      go : (k-of ≡ ones f - 2) ⊎ (k-of < ones f - 2) → v-of < limit f
+      go : (k_of ≡ ones f - 2) ⊎ (k_of < ones f - 2) → v_of < limit f
       go (inl e) =
           lt_of_lt_of_le (mul-lt-mul_of_pos_right
-          (subst (λ (x : ℕ). closest n-of x < 2 ^ prec f) (sym (unit-at e)) (closest_lt n-of (edge f * den) (2 ^ prec f) edge-pos (lt_of_lt_of_le h (le_of_eq limit-edge)))) (pow_pos k-of))
+          (subst (λ (x : ℕ). closest n_of x < 2 ^ prec f) (sym (unit_at e)) (closest_lt n_of (edge f * den) (2 ^ prec f) edge_pos (lt_of_lt_of_le h (le_of_eq limit_edge)))) (pow_pos k_of))
           (le_of_eq (ap (λ (x : ℕ). 2 ^ prec f * 2 ^ x) e ∙ limit_is f))
       go (inr l) =
-          lt_of_le_of_lt (mul-le-mul_right (2 ^ k-of) (round_keeps f n-of den).0)
+          lt_of_le_of_lt (mul-le-mul_right (2 ^ k_of) (round_keeps f n_of den).0)
           (lt_of_lt_of_le (mul-lt-mul_of_pos_left (pow-lt l) (pow_pos (prec f))) (le_of_eq (limit_is f)))
 
-  beyond-limit : Beyond → limit f ≤ v-of
-  beyond-limit h = go (ltb k-of (ones f - 2)) (ltb→lt k-of (ones f - 2)) (nltb→le k-of (ones f - 2))
+  beyond_limit : Beyond → limit f ≤ v_of
+  beyond_limit h = go (ltb k_of (ones f - 2)) (ltb→lt k_of (ones f - 2)) (nltb→le k_of (ones f - 2))
     where
       E : ℕ
       E = edge f * den
 
-      far : 2 ^ prec f * (E * 2) ≤ n-of + E
-      far = le_trans (le_of_eq (sym limit-edge)) h
+      far : 2 ^ prec f * (E * 2) ≤ n_of + E
+      far = le_trans (le_of_eq (sym limit_edge)) h
 
       cover : (f : Format) (z : ℕ) → z - prec f < ones f - 2 → z ≤ prec f + (ones f - 3)
       cover binary32 z l = omega arith
@@ -277,46 +277,46 @@ module _ (f : Format) (s : Bool) (num den : ℕ) (D : 0 < den) where
       no : (P E n : ℕ) → 0 < P → P * (E * 2) ≤ n + E → n < P * E → ⊥
       no P E n p a b = let c : 1 * E ≤ P * E = mul-le-mul_right E p in omega arith
 
-      near : k-of < ones f - 2 → n-of < 2 ^ prec f * E
+      near : k_of < ones f - 2 → n_of < 2 ^ prec f * E
       near l =
-          lt_of_lt_of_le ((div-lt_iff_lt-mul D).0 (lt_of_lt_of_le (size-lt (n-of / den)) (pow_mono (cover f (size (n-of / den)) l))))
+          lt_of_lt_of_le ((div-lt_iff_lt-mul D).0 (lt_of_lt_of_le (size-lt (n_of / den)) (pow_mono (cover f (size (n_of / den)) l))))
           (le_of_eq (ap (λ (x : ℕ). x * den) (pow-add 2 (prec f) (ones f - 3)) ∙ mul_assoc (2 ^ prec f) (edge f) den))
 
       more : (f : Format) (k : ℕ) → ones f - 2 < k → (ones f - 1 ≤ k) × (0 < k)
       more binary32 k l = omega arith
       more binary64 k l = omega arith
 
-      reach : (ones f - 2 ≡ k-of) ⊎ (ones f - 2 < k-of) → limit f ≤ v-of
+      reach : (ones f - 2 ≡ k_of) ⊎ (ones f - 2 < k_of) → limit f ≤ v_of
       reach (inl e) =
           le_trans (le_of_eq (sym (limit_is f) ∙ ap (λ (x : ℕ). 2 ^ prec f * 2 ^ x) e))
-          (mul-le-mul_right (2 ^ k-of) (subst (λ (x : ℕ). 2 ^ prec f ≤ closest n-of x) (sym (unit-at (sym e))) (closest_ge n-of E (2 ^ prec f) edge-pos (digits_even f).0 (digits_even f).1 far)))
+          (mul-le-mul_right (2 ^ k_of) (subst (λ (x : ℕ). 2 ^ prec f ≤ closest n_of x) (sym (unit_at (sym e))) (closest_ge n_of E (2 ^ prec f) edge_pos (digits_even f).0 (digits_even f).1 far)))
       reach (inr l) =
-          le_trans (le_of_eq (sym (limit_hid f))) (mul-le-mul ((round_keeps f n-of den).1 (more f k-of l).1) (pow_mono (more f k-of l).0))
+          le_trans (le_of_eq (sym (limit_hid f))) (mul-le-mul ((round_keeps f n_of den).1 (more f k_of l).1) (pow_mono (more f k_of l).0))
 
-      go : (t : Bool) → (T t → k-of < ones f - 2) → (T (not t) → ones f - 2 ≤ k-of) → limit f ≤ v-of
-      go true a b = absurd (no (2 ^ prec f) E n-of (digits_even f).1 far (near (a tt)))
+      go : (t : Bool) → (T t → k_of < ones f - 2) → (T (not t) → ones f - 2 ≤ k_of) → limit f ≤ v_of
+      go true a b = absurd (no (2 ^ prec f) E n_of (digits_even f).1 far (near (a tt)))
       go false a b = reach (eq-or-lt_of_le (b tt))
 
-  pub round-value : Below → HasValue (round f s num den) s v-of (2 ^ low f)
-  round-value h = subst (λ (x : Float). HasValue x s v-of (2 ^ low f)) (sym (round_is f s num den)) (units_val f s q-of k-of (below-limit h))
+  pub round_value : Below → HasValue (round f s num den) s v_of (2 ^ low f)
+  round_value h = subst (λ (x : Float). HasValue x s v_of (2 ^ low f)) (sym (round_is f s num den)) (units_val f s q_of k_of (below_limit h))
 
-  pub round-over : Beyond → round f s num den ≡ inf s
-  round-over h = round_is f s num den ∙ over f s q-of k-of (beyond-limit h)
+  pub round_over : Beyond → round f s num den ≡ inf s
+  round_over h = round_is f s num den ∙ over f s q_of k_of (beyond_limit h)
 
-  pattern : Below → q-of % 2 ≡ 0 → to_bits f (round f s num den) % 2 ≡ 0
+  pattern : Below → q_of % 2 ≡ 0 → to_bits f (round f s num den) % 2 ≡ 0
   pattern h e =
       let b = with_sign f s (round_mag f num den) in
       ap (λ (x : Float). to_bits f x % 2) (round_bits f s num den)
-      ∙ ap (λ (x : ℕ). x % 2) (to_bits-of_bits f b (pattern_lt f s (k-of * hid f + q-of)) (number (of_bits f b) s v-of (2 ^ low f) (subst (λ (x : Float). HasValue x s v-of (2 ^ low f)) (round_bits f s num den) (round-value h))))
-      ∙ pattern_even f s q-of k-of e
+      ∙ ap (λ (x : ℕ). x % 2) (to_bits-of_bits f b (pattern_lt f s (k_of * hid f + q_of)) (number (of_bits f b) s v_of (2 ^ low f) (subst (λ (x : Float). HasValue x s v_of (2 ^ low f)) (round_bits f s num den) (round_value h))))
+      ∙ pattern_even f s q_of k_of e
 
-  pub round-near : Below → (y : Float) (t : Bool) (w : ℕ) → T (fits f y) → HasValue y t w (2 ^ low f)
-      → (dist (num * 2 ^ low f) (v-of * den) ≤ dist (num * 2 ^ low f) (w * den))
-      × (dist (num * 2 ^ low f) (v-of * den) ≡ dist (num * 2 ^ low f) (w * den) → (w ≡ v-of) ⊎ (to_bits f (round f s num den) % 2 ≡ 0))
-  round-near h y t w p v =
+  pub round_near : Below → (y : Float) (t : Bool) (w : ℕ) → T (fits f y) → HasValue y t w (2 ^ low f)
+      → (dist (num * 2 ^ low f) (v_of * den) ≤ dist (num * 2 ^ low f) (w * den))
+      × (dist (num * 2 ^ low f) (v_of * den) ≡ dist (num * 2 ^ low f) (w * den) → (w ≡ v_of) ⊎ (to_bits f (round f s num den) % 2 ≡ 0))
+  round_near h y t w p v =
       let z = kept_near y t w p v in
       (z.0, λ d. elim (z.1 d) [ inl e ↦ inl e | inr e ↦ inr (pattern h e) ])
 
   -- a zero's pattern is even too
-  pub round-zero : Below → v-of ≡ 0 → to_bits f (round f s num den) % 2 ≡ 0
-  round-zero h e = pattern h (ap (λ (x : ℕ). x % 2) (eq_of_mul-eq-mul_right (2 ^ k-of) (pow_pos k-of) q-of 0 (e ∙ sym (zero-mul (2 ^ k-of)))))
+  pub round-zero : Below → v_of ≡ 0 → to_bits f (round f s num den) % 2 ≡ 0
+  round-zero h e = pattern h (ap (λ (x : ℕ). x % 2) (eq_of_mul-eq-mul_right (2 ^ k_of) (pow_pos k_of) q_of 0 (e ∙ sym (zero-mul (2 ^ k_of)))))

@@ -69,8 +69,8 @@ below_scale true a true b k K = ltb_scale b a k K
 
 -- What holds of x, y and z as whole numbers holds of the fractions x / dx, y / dy and z / dz: both laws above are carried to floats by this
 module _ (v s t u : Bool) (law : (a b c : ℕ) → below s a t b ≡ v → below t b u c ≡ v → below s a u c ≡ v) where
-  over-fractions : (x dx y dy z dz : ℕ) → 0 < dx → 0 < dy → 0 < dz → below s (x * dy) t (y * dx) ≡ v → below t (y * dz) u (z * dy) ≡ v → below s (x * dz) u (z * dx) ≡ v
-  over-fractions x dx y dy z dz X Y Z h g =
+  over_fractions : (x dx y dy z dz : ℕ) → 0 < dx → 0 < dy → 0 < dz → below s (x * dy) t (y * dx) ≡ v → below t (y * dz) u (z * dy) ≡ v → below s (x * dz) u (z * dx) ≡ v
+  over_fractions x dx y dy z dz X Y Z h g =
       let p : below s (x * dy * dz) t (y * dz * dx) ≡ v = rw (← mul_right_comm y dx dz) (below_scale s (x * dy) t (y * dx) dz Z ∙ h) in
       let q : below t (y * dz * dx) u (z * dx * dy) ≡ v = rw (← mul_right_comm z dy dx) (below_scale t (y * dz) u (z * dy) dx X ∙ g) in
       let r : below s (x * dz * dy) u (z * dx * dy) ≡ v = rw (← mul_right_comm x dy dz) (law (x * dy * dz) (y * dz * dx) (z * dx * dy) p q) in
@@ -120,7 +120,7 @@ lt_trans (fin s m e) (inf false) (fin u l f) h g = no (sym g)
 lt_trans (fin s m e) (fin t k d) nan h g = no (sym g)
 lt_trans (fin s m e) (fin t k d) (inf u) h g = g
 lt_trans (fin s m e) (fin t k d) (fin u l f) h g =
-    over-fractions true s t u (λ a b c. below_trans s a t b u c) (m * up e) (down e) (k * up d) (down d) (l * up f) (down f) (down_pos e) (down_pos d) (down_pos f) h g
+    over_fractions true s t u (λ a b c. below_trans s a t b u c) (m * up e) (down e) (k * up d) (down d) (l * up f) (down f) (down_pos e) (down_pos d) (down_pos f) h g
 
 -- `x` is not below `z` if it is not below a number that is not below `z`
 pub not_lt-trans : (x y z : Float) → is_number y ≡ true → lt x y ≡ false → lt y z ≡ false → lt x z ≡ false
@@ -147,7 +147,7 @@ not_lt-trans (fin s m e) (inf true) (fin u l f) n h g = no g
 not_lt-trans (fin s m e) (inf false) (fin u l f) n h g = no h
 not_lt-trans (fin s m e) (fin t k d) (inf u) n h g = g
 not_lt-trans (fin s m e) (fin t k d) (fin u l f) n h g =
-    over-fractions false s t u (λ a b c. not_below_trans s a t b u c) (m * up e) (down e) (k * up d) (down d) (l * up f) (down f) (down_pos e) (down_pos d) (down_pos f) h g
+    over_fractions false s t u (λ a b c. not_below_trans s a t b u c) (m * up e) (down e) (k * up d) (down d) (l * up f) (down f) (down_pos e) (down_pos d) (down_pos f) h g
 
 -- ---- equality
 pub eq_not_lt : (x y : Float) → eq x y ≡ true → (lt x y ≡ false) × (lt y x ≡ false)

@@ -58,10 +58,10 @@ same_odd m n (negsuc a) (pos b) o p h =
     absurd (no_power (n * 2 ^ 0) m (b + a) (ap (λ (x : ℕ). x % 2) (mul-one n) ∙ p) o
     (ap (λ (x : ℕ). x * 2 ^ suc (b + a)) (mul-one n) ∙ pow-join n b a ∙ sym h ∙ mul-one (m * 1) ∙ mul-one m))
 same_odd m n (negsuc a) (negsuc b) o p h =
-    let r = odd_pow m n (suc b) (suc a) o p (ap (λ (x : ℕ). x * 2 ^ suc b) (sym (mul-one m)) ∙ h ∙ ap (λ (x : ℕ). x * 2 ^ suc a) (mul-one n)) in (r.0, ap negsuc (suc-back b a r.1))
+    let r = odd_pow m n (suc b) (suc a) o p (ap (λ (x : ℕ). x * 2 ^ suc b) (sym (mul-one m)) ∙ h ∙ ap (λ (x : ℕ). x * 2 ^ suc a) (mul-one n)) in (r.0, ap negsuc (suc_back b a r.1))
   where
-    suc-back : (b a : ℕ) → suc b ≡ suc a → a ≡ b
-    suc-back b a h = omega arith
+    suc_back : (b a : ℕ) → suc b ≡ suc a → a ≡ b
+    suc_back b a h = omega arith
 
 cross : (x y de dg a c : ℕ) → 0 < c → x * c ≡ a * de → y * c ≡ a * dg → x * dg ≡ y * de
 cross x y de dg a c C p q =

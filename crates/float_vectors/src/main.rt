@@ -1,6 +1,8 @@
 // Replays the stored list of float cases: `stdin` has the processor's answers, 2,048 for each public function of `float`, made by oracle/floats/floats.c. A line is
 // the function's digit, the input and the answer, both as sixteen hexadecimal digits (oracle/floats/README.md). Prints for each function its name, how many
 // cases were run and how many answers differ, and before that each line that differs with the answer given here.
+#![tactic(auto)]
+
 ghost use Rattle.std.specs.Prelude.{◌+◌, ◌<◌, ◌≤◌};
 
 #[derive(Drop)]

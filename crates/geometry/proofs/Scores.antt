@@ -15,58 +15,58 @@ use Rattle.geometry.proofs.Answers.{or_right}
 
 -- ---- the order
 module _ (a b c : Finder) (ab bc ca : Float) (eab : ab ≡ span2_of a b) (ebc : bc ≡ span2_of b c) (eca : ca ≡ span2_of c a) (v : Bool) (e : v ≡ is_longest ab bc ca) where
-  pub longest-ab : v ≡ true → turned_of c a b ≡ order_of a b c
+  pub longest_ab : v ≡ true → turned_of c a b ≡ order_of a b c
   unfolding order_of
-  longest-ab h = rw (← eab, ← ebc, ← eca, ← e, h)
+  longest_ab h = rw (← eab, ← ebc, ← eca, ← e, h)
 
   module _ (w : Bool) (g : w ≡ is_longest bc ab ca) (not-ab : v ≡ false) where
-    pub longest-bc : w ≡ true → turned_of a b c ≡ order_of a b c
+    pub longest_bc : w ≡ true → turned_of a b c ≡ order_of a b c
     unfolding order_of
-    longest-bc h = rw (← eab, ← ebc, ← eca, ← e, not-ab, ← g, h)
+    longest_bc h = rw (← eab, ← ebc, ← eca, ← e, not-ab, ← g, h)
 
-    pub longest-ca : w ≡ false → turned_of b c a ≡ order_of a b c
+    pub longest_ca : w ≡ false → turned_of b c a ≡ order_of a b c
     unfolding order_of
-    longest-ca h = rw (← eab, ← ebc, ← eca, ← e, not-ab, ← g, h)
+    longest_ca h = rw (← eab, ← ebc, ← eca, ← e, not-ab, ← g, h)
 
 -- ---- the corners' rules
 module _ (f : Corners) (n1 n2 : Float) (e1 : n1 ≡ right_leg f) (e2 : n2 ≡ down_leg f) where
-  pub short-right : lt n1 f1 ≡ true → out_by_edge f ≡ true
+  pub short_right : lt n1 f1 ≡ true → out_by_edge f ≡ true
   unfolding out_by_edge
-  short-right h = rw (← e1, h)
+  short_right h = rw (← e1, h)
 
-  pub short-down : lt n2 f1 ≡ true → out_by_edge f ≡ true
+  pub short_down : lt n2 f1 ≡ true → out_by_edge f ≡ true
   unfolding out_by_edge
-  short-down h = rw (← e2) (or_right (lt (right_leg f) f1) (lt n2 f1) h)
+  short_down h = rw (← e2) (or_right (lt (right_leg f) f1) (lt n2 f1) h)
 
   pub not_short : lt n1 f1 ≡ false → lt n2 f1 ≡ false → out_by_edge f ≡ false
   unfolding out_by_edge
   not_short h g = rw (← e1, ← e2, h, g)
 
-  pub cosine-is : (d cos : Float) → d ≡ dot_of f → cos ≡ abs_of (over32 d (times32 n1 n2)) → cos ≡ abs_of (cosine_of f)
+  pub cosine_is : (d cos : Float) → d ≡ dot_of f → cos ≡ abs_of (over32 d (times32 n1 n2)) → cos ≡ abs_of (cosine_of f)
   unfolding cosine_of
-  cosine-is d cos e h = rw (← e1, ← e2, ← e) h
+  cosine_is d cos e h = rw (← e1, ← e2, ← e) h
 
-  pub ratio-is : (r : Float) → r ≡ max_of (over32 n1 n2) (over32 n2 n1) → r ≡ ratio_of f
+  pub ratio_is : (r : Float) → r ≡ max_of (over32 n1 n2) (over32 n2 n1) → r ≡ ratio_of f
   unfolding ratio_of
-  ratio-is r h = rw (← e1, ← e2) h
+  ratio_is r h = rw (← e1, ← e2) h
 
 module _ (f : Corners) where
-  pub out-edge : out_by_edge f ≡ true → Out ≡ answer (admissible_corners f) (corner_score f)
+  pub out_edge : out_by_edge f ≡ true → Out ≡ answer (admissible_corners f) (corner_score f)
   unfolding admissible_corners
-  out-edge h = rw h
+  out_edge h = rw h
 
-  pub out-angle : (cos : Float) → cos ≡ abs_of (cosine_of f) → out_by_edge f ≡ false → lt f0_7 cos ≡ true → Out ≡ answer (admissible_corners f) (corner_score f)
+  pub out_angle : (cos : Float) → cos ≡ abs_of (cosine_of f) → out_by_edge f ≡ false → lt f0_7 cos ≡ true → Out ≡ answer (admissible_corners f) (corner_score f)
   unfolding admissible_corners out_by_angle
-  out-angle cos e h g = rw (h, ← e, g)
+  out_angle cos e h g = rw (h, ← e, g)
 
   module _ (cos ratio : Float) (ec : cos ≡ abs_of (cosine_of f)) (er : ratio ≡ ratio_of f) (edge : out_by_edge f ≡ false) (angle : lt f0_7 cos ≡ false) where
-    pub out-ratio : lt f1_6 ratio ≡ true → Out ≡ answer (admissible_corners f) (corner_score f)
+    pub out_ratio : lt f1_6 ratio ≡ true → Out ≡ answer (admissible_corners f) (corner_score f)
     unfolding admissible_corners out_by_angle out_by_ratio
-    out-ratio g = rw (edge, ← ec, ← er, angle, g)
+    out_ratio g = rw (edge, ← ec, ← er, angle, g)
 
-    pub out-number : (s : Float) → s ≡ plus32 cos (minus32 ratio f1) → lt f1_6 ratio ≡ false → ne s s ≡ true → Out ≡ answer (admissible_corners f) (corner_score f)
+    pub out_number : (s : Float) → s ≡ plus32 cos (minus32 ratio f1) → lt f1_6 ratio ≡ false → ne s s ≡ true → Out ≡ answer (admissible_corners f) (corner_score f)
     unfolding admissible_corners out_by_angle out_by_ratio corner_score is_number
-    out-number s e g n = rw (edge, ← ec, ← er, angle, g, ← e, n)
+    out_number s e g n = rw (edge, ← ec, ← er, angle, g, ← e, n)
 
     pub scored : (s : Float) → s ≡ plus32 cos (minus32 ratio f1) → lt f1_6 ratio ≡ false → ne s s ≡ false → Is s ≡ answer (admissible_corners f) (corner_score f)
     unfolding admissible_corners out_by_angle out_by_ratio corner_score is_number
@@ -74,10 +74,10 @@ module _ (f : Corners) where
 
 -- ---- the pitch first, then the corners
 module _ (a b c : Finder) (v : Bool) (e : v ≡ out_by_pitch a b c) where
-  pub pitch-out : v ≡ true → Out ≡ answer (admissible a b c) (score_of a b c)
+  pub pitch_out : v ≡ true → Out ≡ answer (admissible a b c) (score_of a b c)
   unfolding admissible
-  pitch-out h = rw (← e, h)
+  pitch_out h = rw (← e, h)
 
-  pub pitch-in : (f : Corners) (r : Score) → v ≡ false → f ≡ order_of a b c → r ≡ answer (admissible_corners f) (corner_score f) → r ≡ answer (admissible a b c) (score_of a b c)
+  pub pitch_in : (f : Corners) (r : Score) → v ≡ false → f ≡ order_of a b c → r ≡ answer (admissible_corners f) (corner_score f) → r ≡ answer (admissible a b c) (score_of a b c)
   unfolding admissible score_of
-  pitch-in f r h g k = rw (← e, h, ← g) k
+  pitch_in f r h g k = rw (← e, h, ← g) k

@@ -99,22 +99,22 @@ sides = refl
 
 -- ---- "transforms built from finders have strength 0" (document 02, N12) and centre 0, as what a refusal leaves
 module _ (c : Corners) where
-  affine-plain : (side : Float) → Plain (affine_of c side).transform
+  affine_plain : (side : Float) → Plain (affine_of c side).transform
   unfolding affine_of
-  affine-plain side = triangle_plain _ _
+  affine_plain side = triangle_plain _ _
 
   abbrev PlainFit : Fit → Type 0
   PlainFit f = Plain f.transform
 
-  fit-plain : (a : Marker) (v : ℕ) → Plain (symbol_fit c a v).transform
+  fit_plain : (a : Marker) (v : ℕ) → Plain (symbol_fit c a v).transform
   unfolding symbol_fit homography_of
-  fit-plain Missing v = affine-plain (whole32 (side_of v))
-  fit-plain (Found p) v =
+  fit_plain Missing v = affine_plain (whole32 (side_of v))
+  fit_plain (Found p) v =
       let side = whole32 (side_of v) in
       let h = homography_of c p side in
       let g = affine_of c side in
-      either PlainFit (ltb v 2) g (or_else h g) (affine-plain side) (either PlainFit h.found h g (quad_plain _ _) (affine-plain side))
+      either PlainFit (ltb v 2) g (or_else h g) (affine_plain side) (either PlainFit h.found h g (quad_plain _ _) (affine_plain side))
 
-  pub built-plain : (a : Marker) (v : ℕ) → Plain (built_of c a v).fit.transform
+  pub built_plain : (a : Marker) (v : ℕ) → Plain (built_of c a v).fit.transform
   unfolding built_of
-  built-plain a v = unless_either PlainFit (version_refusal v) no_fit (symbol_fit c a v) refl (fit-plain a v)
+  built_plain a v = unless_either PlainFit (version_refusal v) no_fit (symbol_fit c a v) refl (fit_plain a v)

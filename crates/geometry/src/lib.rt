@@ -1,4 +1,6 @@
 // What three finders tell of a symbol: which is which, their score, its version, and the map from its modules to pixels.
+#![tactic(auto)]
+
 ghost use Rattle.std.specs.Prelude.{◌≡◌};
 ghost use Rattle.geometry.specs.Order.{zero_finder, span_of, span2_of, is_longest, turned_of, order_of};
 ghost use Rattle.geometry.specs.Estimate.{edge_of, side_in, nearest_version, estimate_of};
@@ -11,7 +13,7 @@ use transform::{Fit, Point, Quad, Transform, Triangle};
 pub mod score;
 
 // A finder's centre in pixels, its module in pixels, and how many hits it is the mean of.
-#[derive(Drop)]
+#[derive(Clone, Copy)]
 pub struct Finder {
     pub x: f32,
     pub y: f32,
@@ -20,7 +22,7 @@ pub struct Finder {
 }
 
 // Three finders by what they are: top left, top right, bottom left.
-#[derive(Drop)]
+#[derive(Clone, Copy)]
 pub struct Corners {
     pub tl: Finder,
     pub tr: Finder,
@@ -28,14 +30,14 @@ pub struct Corners {
 }
 
 // The centre of the alignment marker, where it was found.
-#[derive(Drop)]
+#[derive(Clone, Copy)]
 pub enum Marker {
     At(Point),
     Missing,
 }
 
 // A transform or none, or a refusal, and then zeros.
-#[derive(Drop)]
+#[derive(Clone, Copy)]
 pub struct Built {
     pub refusal: u8,
     pub fit: Fit,

@@ -5,7 +5,7 @@ ghost use Rattle.geometry.specs.Score.{mean_of, out_by_pitch, dot_of, corner_sco
 use super::{Corners, Finder, order_finders, span};
 
 // The score of an admissible triple.
-#[derive(Drop)]
+#[derive(Clone, Copy)]
 pub enum Score {
     Out,
     Is(f32),

@@ -21,7 +21,7 @@ use Rattle.image.specs.Passed.{DenoisedPassed}
 use Rattle.image.specs.Denoise.{denoised_refusal, inside, votes, denoised_at}
 use Rattle.image.specs.Window.{behind, chosen_at, pad_of, up_of, mid_of, down_of, stretch, Held, voted_at}
 use Rattle.image.specs.declared.denoise.Rows.{Rows}
-use Rattle.image.proofs.Windows.{behind-at, three-pixels, bit-at, copy_at}
+use Rattle.image.proofs.Windows.{behind-at, three_pixels, bit-at, copy_at}
 
 ones_bit : (d : Bool) → ones (bit d) ≡ bit d
 unfolding ones bit
@@ -89,40 +89,40 @@ within w h x y e = go (ltb 0 x) refl (ltb (x + 1) w) refl (ltb 0 y) refl (ltb (y
 -- ---- byte j, from three rows' bytes
 module _ (b : List ℕ) (w h j : ℕ) (s : Rows) (held : Held b w j s) where
   -- three pixels of one of the rows
-  three-of : (first k i bytes : ℕ) → bytes ≡ stretch b w j 24 first → i < 8 → j * 8 + i + first ≡ pad_of w * 8 + k
+  three_of : (first k i bytes : ℕ) → bytes ≡ stretch b w j 24 first → i < 8 → j * 8 + i + first ≡ pad_of w * 8 + k
       → bytes / 2 ^ (14 - first % 8) / 2 ^ (7 - i) % 8 ≡ word (dark_bit b) k 3
-  three-of first k i bytes f l e =
+  three_of first k i bytes f l e =
       rw f
-      (three-pixels (behind (pad_of w) b) (j + first / 8) (first % 8) i (omega arith) l
+      (three_pixels (behind (pad_of w) b) (j + first / 8) (first % 8) i (omega arith) l
       ∙ word_same (behind (pad_of w) b) (dark_bit b) ((j + first / 8) * 8 + first % 8 + i) k 3 (λ m _.
       let q : (j + first / 8) * 8 + first % 8 + i + m ≡ pad_of w * 8 + (k + m) = omega arith in
       ap (behind (pad_of w) b) q ∙ behind-at (pad_of w) b (k + m)))
 
   -- the majority about a pixel inside
-  majority-at : (i : ℕ) → i < 8 → let k = j * 8 + i in inside w h (k % w) (k / w) ≡ true → voted_at w s i ≡ leb 5 (votes b w h (k % w) (k / w))
-  majority-at i l e =
+  majority_at : (i : ℕ) → i < 8 → let k = j * 8 + i in inside w h (k % w) (k / w) ≡ true → voted_at w s i ≡ leb 5 (votes b w h (k % w) (k / w))
+  majority_at i l e =
       let k = j * 8 + i in
       let r = within w h (k % w) (k / w) e in
       let whole : k / w * w + k % w ≡ k = div-add-mod' k w in
       let least = mul-le-mul_right {m = 1} {n = k / w} w r.2 in
       rw (
-        three-of (up_of w) (k - w - 1) i s.above held.above l (omega arith),
-        three-of (mid_of w) (k - 1) i s.row held.row l (omega arith),
-        three-of (down_of w) (k + w - 1) i s.below held.below l (omega arith),
+        three_of (up_of w) (k - w - 1) i s.above held.above l (omega arith),
+        three_of (mid_of w) (k - 1) i s.row held.row l (omega arith),
+        three_of (down_of w) (k + w - 1) i s.below held.below l (omega arith),
         window-votes b w h (k % w) (k / w) r.0 r.1 k r.2 r.3 (sym whole),
       )
 
   -- all eight pixels
-  pub denoised-byte : (voted byte : ℕ) → voted ≡ word (voted_at w s) 0 8 → byte ≡ word (chosen_at voted (get_or b j 0) w h (j * 8)) 0 8
+  pub denoised_byte : (voted byte : ℕ) → voted ≡ word (voted_at w s) 0 8 → byte ≡ word (chosen_at voted (get_or b j 0) w h (j * 8)) 0 8
       → byte ≡ byte_of (denoised_at b w h) j
   unfolding denoised_at
-  denoised-byte voted byte v e =
+  denoised_byte voted byte v e =
       e ∙ word_same (chosen_at voted (get_or b j 0) w h (j * 8)) (denoised_at b w h) 0 (j * 8) 8 (λ i l.
       rw (zero-add i) (pixel i l (inside w h ((j * 8 + i) % w) ((j * 8 + i) / w)) refl))
     where
       pixel : (i : ℕ) → i < 8 → (t : Bool) → inside w h ((j * 8 + i) % w) ((j * 8 + i) / w) ≡ t
           → chosen_at voted (get_or b j 0) w h (j * 8) i ≡ denoised_at b w h (j * 8 + i)
-      pixel i l true q = rw q (bit-at _ voted i l v ∙ majority-at i l q)
+      pixel i l true q = rw q (bit-at _ voted i l v ∙ majority_at i l q)
       pixel i l false q = rw q (copy_at b j i l)
 
 -- what is known where denoising does not refuse

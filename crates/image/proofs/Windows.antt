@@ -22,21 +22,21 @@ module _ (pad : ℕ) (b : List ℕ) where
   unfolding behind
   behind-at k = let e : pad * 8 + k - pad * 8 ≡ k = omega arith in rw (le-ltb (pad * 8 + k) (pad * 8) (omega arith), e)
 
-  pub front-byte : (i : ℕ) → i < pad → byte_of (behind pad b) i ≡ 0
+  pub front_byte : (i : ℕ) → i < pad → byte_of (behind pad b) i ≡ 0
   unfolding behind
-  front-byte i h = word_light (behind pad b) (i * 8) 8 (λ k l. rw (lt-ltb (i * 8 + k) (pad * 8) (omega arith)))
+  front_byte i h = word_light (behind pad b) (i * 8) 8 (λ k l. rw (lt-ltb (i * 8 + k) (pad * 8) (omega arith)))
 
   -- byte i of it is the picture's byte i - pad
-  later-byte : (i : ℕ) → pad ≤ i → byte_of (behind pad b) i ≡ byte_of (dark_bit b) (i - pad)
-  later-byte i h = word_same (behind pad b) (dark_bit b) (i * 8) ((i - pad) * 8) 8 (λ k l.
+  later_byte : (i : ℕ) → pad ≤ i → byte_of (behind pad b) i ≡ byte_of (dark_bit b) (i - pad)
+  later_byte i h = word_same (behind pad b) (dark_bit b) (i * 8) ((i - pad) * 8) 8 (λ k l.
       let e : i * 8 + k ≡ pad * 8 + ((i - pad) * 8 + k) = omega arith in
       ap (behind pad b) e ∙ behind-at ((i - pad) * 8 + k))
 
-  pub past-byte : (i : ℕ) → pad ≤ i → length b ≤ i - pad → byte_of (behind pad b) i ≡ 0
-  past-byte i h l = later-byte i h ∙ word_light (dark_bit b) ((i - pad) * 8) 8 (λ k m. dark_past b ((i - pad) * 8 + k) (omega arith))
+  pub past_byte : (i : ℕ) → pad ≤ i → length b ≤ i - pad → byte_of (behind pad b) i ≡ 0
+  past_byte i h l = later_byte i h ∙ word_light (dark_bit b) ((i - pad) * 8) 8 (λ k m. dark_past b ((i - pad) * 8 + k) (omega arith))
 
-  pub inner-byte : (i : ℕ) → pad ≤ i → get_or b (i - pad) 0 < 256 → byte_of (behind pad b) i ≡ get_or b (i - pad) 0
-  inner-byte i h l = later-byte i h ∙ byte_word b (i - pad) l
+  pub inner_byte : (i : ℕ) → pad ≤ i → get_or b (i - pad) 0 < 256 → byte_of (behind pad b) i ≡ get_or b (i - pad) 0
+  inner_byte i h l = later_byte i h ∙ byte_word b (i - pad) l
 
 -- ---- bytes in a row
 module _ (p : ℕ → Bool) (i : ℕ) where
@@ -46,34 +46,34 @@ module _ (p : ℕ → Bool) (i : ℕ) where
   pub two_bytes : word p (i * 8) 16 ≡ byte_of p i * 256 + byte_of p (i + 1)
   two_bytes = let e : i * 8 + 8 ≡ (i + 1) * 8 = omega arith in word-append p (i * 8) 8 8 ∙ rw e
 
-  pub three-bytes : word p (i * 8) 24 ≡ word p (i * 8) 16 * 256 + byte_of p (i + 2)
-  three-bytes = let e : i * 8 + 16 ≡ (i + 2) * 8 = omega arith in word-append p (i * 8) 16 8 ∙ rw e
+  pub three_bytes_lem : word p (i * 8) 24 ≡ word p (i * 8) 16 * 256 + byte_of p (i + 2)
+  three_bytes_lem = let e : i * 8 + 16 ≡ (i + 2) * 8 = omega arith in word-append p (i * 8) 16 8 ∙ rw e
 
-  pub last-two : word p (i * 8) 24 % 65536 ≡ word p ((i + 1) * 8) 16
-  last-two =
+  pub last_two : word p (i * 8) 24 % 65536 ≡ word p ((i + 1) * 8) 16
+  last_two =
       let e : i * 8 + 8 ≡ (i + 1) * 8 = omega arith in
       rw (word-append p (i * 8) 8 16, e) (low (word p (i * 8) 8) 16 (word_bound p ((i + 1) * 8) 16))
 
   -- three pixels of three bytes, of which those after the tenth from pixel f on are cut off
-  pub three-pixels : (f k : ℕ) → f < 8 → k < 8 → word p (i * 8) 24 / 2 ^ (14 - f) / 2 ^ (7 - k) % 8 ≡ word p (i * 8 + f + k) 3
-  three-pixels f k h l =
+  pub three_pixels : (f k : ℕ) → f < 8 → k < 8 → word p (i * 8) 24 / 2 ^ (14 - f) / 2 ^ (7 - k) % 8 ≡ word p (i * 8 + f + k) 3
+  three_pixels f k h l =
       let all : 24 ≡ f + k + 3 + (14 - f + (7 - k)) = omega arith in
       let at : i * 8 + (f + k) ≡ i * 8 + f + k = omega arith in
       rw (shr-shr, all) (word_part p (i * 8) (f + k) 3 (14 - f + (7 - k)) ∙ rw at)
 
 -- ---- a row's bytes as they are read, where pad light bytes are in front and the row starts at pixel f
 module _ (b : List ℕ) (w pad first f bytes : ℕ) (p : pad ≡ pad_of w) (q : first ≡ f) where
-  pub read-two : bytes ≡ word (behind pad b) (first / 8 * 8) 16 → bytes % 65536 ≡ stretch b w 0 16 f
-  read-two e = rw (zero-add, ← p, ← q, e) (mod-eq_of_lt (word_bound (behind pad b) (first / 8 * 8) 16))
+  pub read_two : bytes ≡ word (behind pad b) (first / 8 * 8) 16 → bytes % 65536 ≡ stretch b w 0 16 f
+  read_two e = rw (zero-add, ← p, ← q, e) (mod-eq_of_lt (word_bound (behind pad b) (first / 8 * 8) 16))
 
-  pub read-three : (j : ℕ) → bytes ≡ word (behind pad b) ((j + first / 8) * 8) 24 → bytes ≡ stretch b w j 24 f
-  read-three j e = rw (← p, ← q) e
+  pub read_three : (j : ℕ) → bytes ≡ word (behind pad b) ((j + first / 8) * 8) 24 → bytes ≡ stretch b w j 24 f
+  read_three j e = rw (← p, ← q) e
 
-  pub next-two : (j : ℕ) → bytes % 65536 ≡ word (behind pad b) ((j + first / 8 + 1) * 8) 16 → bytes % 65536 ≡ stretch b w (j + 1) 16 f
-  next-two j e = let s : j + 1 + first / 8 ≡ j + first / 8 + 1 = omega arith in rw (← p, ← q, s) e
+  pub next_two : (j : ℕ) → bytes % 65536 ≡ word (behind pad b) ((j + first / 8 + 1) * 8) 16 → bytes % 65536 ≡ stretch b w (j + 1) 16 f
+  next_two j e = let s : j + 1 + first / 8 ≡ j + first / 8 + 1 = omega arith in rw (← p, ← q, s) e
 
-  pub have-two : (j : ℕ) → bytes % 65536 ≡ stretch b w j 16 f → bytes % 65536 ≡ word (behind pad b) ((j + first / 8) * 8) 16
-  have-two j e = rw (p, q) e
+  pub have_two : (j : ℕ) → bytes % 65536 ≡ stretch b w j 16 f → bytes % 65536 ≡ word (behind pad b) ((j + first / 8) * 8) 16
+  have_two j e = rw (p, q) e
 
 -- ---- eight pixels, voted or copied
 
@@ -107,8 +107,8 @@ all_inside_lem w h n right left top bottom i l =
 
 module _ (voted copied w h n : ℕ) where
   -- where all are inside
-  pub chosen-all : voted < 256 → ((i : ℕ) → i < 8 → inside w h ((n + i) % w) ((n + i) / w) ≡ true) → word (chosen_at voted copied w h n) 0 8 ≡ voted
-  chosen-all small all = word_digits (chosen_at voted copied w h n) 0 8 voted small (λ i r e.
+  pub chosen_all : voted < 256 → ((i : ℕ) → i < 8 → inside w h ((n + i) % w) ((n + i) / w) ≡ true) → word (chosen_at voted copied w h n) 0 8 ≡ voted
+  chosen_all small all = word_digits (chosen_at voted copied w h n) 0 8 voted small (λ i r e.
       let place : 7 - i ≡ r = omega arith in
       rw (zero-add i, all i (omega arith), place))
 

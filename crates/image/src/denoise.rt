@@ -160,7 +160,7 @@ fn chosen(voted: u8, copied: u8, w: u32, h: u32, n: u32) -> u8
 }
 
 // The bytes at hand of the rows above, through and below a pixel. The last two of each are needed again for the next eight pixels.
-#[derive(Drop)]
+#[derive(Clone, Copy)]
 struct Rows {
     above: u32,
     row: u32,

@@ -1,4 +1,6 @@
 // The picture stage: gray conversion and denoising.
+#![tactic(auto)]
+
 ghost use Rattle.std.specs.Prelude.{◌≡◌};
 ghost use Rattle.image.specs.Gray.{channels_of, of_byte};
 
@@ -6,7 +8,7 @@ pub mod denoise;
 pub mod gray;
 
 // How a pixel stands in a picture.
-#[derive(Drop)]
+#[derive(Clone, Copy)]
 pub enum PixelFormat {
     Gray8,
     Rgb8,
@@ -14,7 +16,7 @@ pub enum PixelFormat {
 }
 
 // A format, or none.
-#[derive(Drop)]
+#[derive(Clone, Copy)]
 pub enum Found {
     Is(PixelFormat),
     Nothing,

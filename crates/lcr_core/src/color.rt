@@ -2,7 +2,7 @@
 ghost use Rattle.std.specs.Prelude.{◌≡◌};
 ghost use Rattle.lcr_core.specs.Color.{hex_of, of_hex, luma_of};
 
-#[derive(Drop)]
+#[derive(Clone, Copy)]
 pub struct Srgb8 {
     pub r: u8,
     pub g: u8,

@@ -1,4 +1,6 @@
 // What every stage shares: its answer with document 01's numbers, the checks of the sides, versions and colours.
+#![tactic(auto)]
+
 ghost use Rattle.std.specs.Prelude.{◌≡◌};
 ghost use Rattle.lcr_core.specs.Outcome.{number_of, zero_side, large_side};
 
@@ -6,7 +8,7 @@ pub mod color;
 pub mod version;
 
 // What an operation answers: done, or why it refused.
-#[derive(Drop)]
+#[derive(Clone, Copy)]
 pub enum Outcome {
     Done,
     ZeroSide,

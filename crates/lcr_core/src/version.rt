@@ -2,18 +2,18 @@
 ghost use Rattle.std.specs.Prelude.{◌≡◌, ◌*◌};
 ghost use Rattle.lcr_core.specs.Version.{new_of, checked_number, version_refusal, side_of, of_side};
 
-#[derive(Drop)]
+#[derive(Clone, Copy)]
 pub struct Version(pub u8);
 
 // A version, or refusal 7.
-#[derive(Drop)]
+#[derive(Clone, Copy)]
 pub enum Checked {
     Is(Version),
     Refused,
 }
 
 // A version, or none.
-#[derive(Drop)]
+#[derive(Clone, Copy)]
 pub enum Found {
     Is(Version),
     Nothing,

@@ -1,4 +1,6 @@
 // The thin functions over a lent slice of finders, any number of them.
+#![tactic(auto)]
+
 ghost use Rattle.std.specs.Prelude.{◌≡◌};
 ghost use Rattle.ranking.specs.Ranking.{finder_at, eight_of};
 

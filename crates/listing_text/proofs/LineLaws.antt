@@ -1,19 +1,19 @@
 -- Lines from their fields as they are written. Assumes nothing.
 use mathlib.Core.Path.{◌≡◌, refl, sym, ap, ◌∙◌}
 use mathlib.Core.List.{List, [], ◌∷◌, ◌++◌, append-nil, append_assoc}
-use Prim.Native.Nat.{ℕ, suc, ◌+◌, ◌≤◌, ◌<◌}
+use Prim.Native.Nat.{ℕ, ◌+◌, ◌≤◌, ◌<◌}
 use native.Mathlib.Numerals.{add-one}
 use native.Mathlib.Omega.{arith}
 use lib.ListN.{length, take, get_or, length-append}
 use lib.Seq.{append_snoc, take_all}
 use Rattle.lists.specs.Lists.{tabulate, flat_map}
-use Rattle.lists.proofs.Folds.{flatMap-append, flatMap-take}
+use Rattle.lists.proofs.Folds.{flat_map-append, flat_map-take}
 use Rattle.transform.specs.declared.Point.{Point}
 use Rattle.geometry.specs.declared.Finder.{Finder}
 use Rattle.geometry.specs.declared.Marker.{Marker}
 use Rattle.geometry.specs.declared.Marker.TheVariants.{At, Missing}
 use Rattle.candidates.specs.declared.Detection.{Detection}
-use Rattle.listing_text.specs.Text.{space, line_feed, dash, decimal_text, single_text, double_text, line_text}
+use Rattle.listing_text.specs.Text.{space, line_feed, dash, decimal_text, single_text, line_text}
 use Rattle.listing_text.specs.Inner.{Wrote, with_space, spaced}
 use Rattle.listing_text.specs.Listing.{refused_word, refused_line, head_line, finder_line, marker_fields, number_fields, detection_line}
 use Rattle.listing_text.proofs.Writing.{wrote_then, wrote_as, wrote_none}
@@ -79,20 +79,20 @@ line_split (x ∷ xs) ys h =
     line_first x xs ys h ∙ ap (λ z. x ++ (space ∷ z)) (line_split xs ys h) ∙ sym (append_snoc x space (spaced xs ++ line_text ys)) ∙ sym (append_assoc (with_space x) (spaced xs) (line_text ys))
 
 module _ (g : ℕ → List ℕ) where
-  pub numbers-none : (i : ℕ) (a : List ℕ) → Wrote (spaced (tabulate 0 g)) i a i a
+  pub numbers_none : (i : ℕ) (a : List ℕ) → Wrote (spaced (tabulate 0 g)) i a i a
   unfolding spaced flat_map tabulate
-  numbers-none i a = wrote_none i a
+  numbers_none i a = wrote_none i a
 
-  spaced-next : (k : ℕ) → spaced (tabulate k g) ++ with_space (g k) ≡ spaced (tabulate (k + 1) g)
+  spaced_next : (k : ℕ) → spaced (tabulate k g) ++ with_space (g k) ≡ spaced (tabulate (k + 1) g)
   unfolding spaced flat_map tabulate
-  spaced-next k = rw (add-one k) (sym (flatMap-append with_space (tabulate k g) (g k ∷ []) ∙ ap (λ z. flat_map with_space (tabulate k g) ++ z) (append-nil (with_space (g k)))))
+  spaced_next k = rw (add-one k) (sym (flat_map-append with_space (tabulate k g) (g k ∷ []) ∙ ap (λ z. flat_map with_space (tabulate k g) ++ z) (append-nil (with_space (g k)))))
 
-  pub number-next : (k i o r : ℕ) (a b c : List ℕ) → Wrote (spaced (tabulate k g)) i a o b → Wrote (g k ++ (space ∷ [])) o b r c → Wrote (spaced (tabulate (k + 1) g)) i a r c
-  number-next k i o r a b c p q =
-      wrote_as (spaced (tabulate k g) ++ with_space (g k)) (spaced (tabulate (k + 1) g)) i r a c (spaced-next k) (wrote_then (spaced (tabulate k g)) (with_space (g k)) i o r a b c p q)
+  pub number_next : (k i o r : ℕ) (a b c : List ℕ) → Wrote (spaced (tabulate k g)) i a o b → Wrote (g k ++ (space ∷ [])) o b r c → Wrote (spaced (tabulate (k + 1) g)) i a r c
+  number_next k i o r a b c p q =
+      wrote_as (spaced (tabulate k g) ++ with_space (g k)) (spaced (tabulate (k + 1) g)) i r a c (spaced_next k) (wrote_then (spaced (tabulate k g)) (with_space (g k)) i o r a b c p q)
 
-  pub numbers-end : (n k i r : ℕ) (a b : List ℕ) → k ≡ n → Wrote (spaced (tabulate k g)) i a r b → Wrote (spaced (tabulate n g)) i a r b
-  numbers-end n k i r a b e p = wrote_as (spaced (tabulate k g)) (spaced (tabulate n g)) i r a b (ap (λ z. spaced (tabulate z g)) e) p
+  pub numbers_end : (n k i r : ℕ) (a b : List ℕ) → k ≡ n → Wrote (spaced (tabulate k g)) i a r b → Wrote (spaced (tabulate n g)) i a r b
+  numbers_end n k i r a b e p = wrote_as (spaced (tabulate k g)) (spaced (tabulate n g)) i r a b (ap (λ z. spaced (tabulate z g)) e) p
 
 -- score and mean module
 abbrev grades : Detection → List (List ℕ)
@@ -128,11 +128,11 @@ module _ {A : Type 0} (g : A → List ℕ) where
 
   pub lines_next : (xs : List A) (k : ℕ) (d : A) (i o r : ℕ) (a b c : List ℕ) → k < length xs → Wrote (flat_map g (take k xs)) i a o b → Wrote (g (get_or xs k d)) o b r c → Wrote (flat_map g (take (k + 1) xs)) i a r c
   lines_next xs k d i o r a b c h p q =
-      wrote_as (flat_map g (take k xs) ++ g (get_or xs k d)) (flat_map g (take (k + 1) xs)) i r a c (sym (flatMap-take g xs k d h)) (wrote_then (flat_map g (take k xs)) (g (get_or xs k d)) i o r a b c p q)
+      wrote_as (flat_map g (take k xs) ++ g (get_or xs k d)) (flat_map g (take (k + 1) xs)) i r a c (sym (flat_map-take g xs k d h)) (wrote_then (flat_map g (take k xs)) (g (get_or xs k d)) i o r a b c p q)
 
   -- as many as are counted, and all there are where more are counted
-  pub lines-counted : (xs : List A) (k n i r : ℕ) (a b : List ℕ) → k ≡ n → Wrote (flat_map g (take k xs)) i a r b → Wrote (flat_map g (take n xs)) i a r b
-  lines-counted xs k n i r a b e p = wrote_as (flat_map g (take k xs)) (flat_map g (take n xs)) i r a b (ap (λ z. flat_map g (take z xs)) e) p
+  pub lines_counted : (xs : List A) (k n i r : ℕ) (a b : List ℕ) → k ≡ n → Wrote (flat_map g (take k xs)) i a r b → Wrote (flat_map g (take n xs)) i a r b
+  lines_counted xs k n i r a b e p = wrote_as (flat_map g (take k xs)) (flat_map g (take n xs)) i r a b (ap (λ z. flat_map g (take z xs)) e) p
 
-  pub lines-all : (xs : List A) (k n i r : ℕ) (a b : List ℕ) → length xs ≤ k → k ≤ n → Wrote (flat_map g (take k xs)) i a r b → Wrote (flat_map g (take n xs)) i a r b
-  lines-all xs k n i r a b h l p = wrote_as (flat_map g (take k xs)) (flat_map g (take n xs)) i r a b (ap (flat_map g) (take_all k xs h ∙ sym (take_all n xs (omega arith)))) p
+  pub lines_all : (xs : List A) (k n i r : ℕ) (a b : List ℕ) → length xs ≤ k → k ≤ n → Wrote (flat_map g (take k xs)) i a r b → Wrote (flat_map g (take n xs)) i a r b
+  lines_all xs k n i r a b h l p = wrote_as (flat_map g (take k xs)) (flat_map g (take n xs)) i r a b (ap (flat_map g) (take_all k xs h ∙ sym (take_all n xs (omega arith)))) p

@@ -17,7 +17,7 @@ use Rattle.geometry.specs.Order.{zero_finder}
 use Rattle.finders.specs.declared.Finders.{Finders}
 use Rattle.finders.specs.declared.Found.{Found}
 use Rattle.finders.specs.Search.{max_finders}
-use Rattle.finders.specs.Answer.{held_in, find_refusal, finders_of, answer_of, table_of as findersTable}
+use Rattle.finders.specs.Answer.{held_in, find_refusal, finders_of, answer_of, table_of as finders_table}
 use Rattle.ranking.specs.declared.Eight.{Eight}
 use Rattle.ranking.specs.Ranking.{in_use, eight_of}
 use Rattle.candidates.specs.declared.Answer.{Answer}
@@ -27,8 +27,8 @@ use Rattle.candidates.specs.Detection.{zero_detection}
 use Rattle.candidates.specs.Candidates.{detections_of, table_of, from_answer, detect_answer}
 use Rattle.candidates.proofs.Answers.{from-eight}
 use Rattle.candidates.proofs.Theorems.{same_answer}
-use Rattle.candidates.proofs.Tails.{finders-tail, answer-tail}
-use Rattle.stages.specs.Pictures.{denoisedPicture, left_after}
+use Rattle.candidates.proofs.Tails.{finders_tail, answer_tail}
+use Rattle.stages.specs.Pictures.{denoised_picture, left_after}
 use Rattle.stages.proofs.Theorems.{denoised_first}
 use Rattle.chain.specs.Chain.{chain_of}
 use Rattle.listing_text.specs.Inner.{Wrote, found_text}
@@ -37,7 +37,7 @@ use Rattle.listing_text.proofs.Writing.{wrote_then, wrote_as}
 
 -- ---- the list
 pub list_wrote : (w h : ℕ) (t : Finders) (u : Detections) (j k r : ℕ) (a b c d : List ℕ) → Wrote (head_line w h t.count u.count) 0 a j b → Wrote (flat_map finder_line (held_in t)) j b k c
-    → Wrote (flat_map detection_line (detections_in u)) k c r d → (fs : List Finder) (ds : List Detection) → t ≡ findersTable fs → u ≡ table_of ds → Wrote (list_text w h fs ds) 0 a r d
+    → Wrote (flat_map detection_line (detections_in u)) k c r d → (fs : List Finder) (ds : List Detection) → t ≡ finders_table fs → u ≡ table_of ds → Wrote (list_text w h fs ds) 0 a r d
 unfolding list_text
 list_wrote w h t u j k r a b c d p q s fs ds e f =
     let n : t.count ≡ length fs = ap (λ (t : Finders). t.count) e in
@@ -54,27 +54,27 @@ list_wrote w h t u j k r a b c d p q s fs ds e f =
 -- ---- the search
 module _ (bits : List ℕ) (w h : ℕ) where
   -- the detections that an answer which is not refused holds
-  pub answer-holds : find_refusal bits w h ≡ 0 → detections_in (detect_answer bits w h).detections ≡ detections_of bits w h (finders_of bits w h)
+  pub answer_holds : find_refusal bits w h ≡ 0 → detections_in (detect_answer bits w h).detections ≡ detections_of bits w h (finders_of bits w h)
   unfolding detect_answer
-  answer-holds z =
+  answer_holds z =
       let n = find_refusal bits w h in
       let ds = detections_of bits w h (finders_of bits w h) in
       ap (λ (ds : List Detection). detections_in (table_of ds)) (sym (unless_done n [] ds z)) ∙ take-padded 3 zero_detection ds
 
   -- the text, by what is refused
-  pub text-refused : (find_refusal bits w h ≡ 0 → ⊥) → found_text bits w h ≡ refused_line (find_refusal bits w h)
+  pub text_refused : (find_refusal bits w h ≡ 0 → ⊥) → found_text bits w h ≡ refused_line (find_refusal bits w h)
   unfolding found_text answer_text detect_answer
-  text-refused z =
+  text_refused z =
       let n = find_refusal bits w h in
       let fs = finders_of bits w h in
       sym (unless-refused n (refused_line n) (list_text w h fs (detections_in (detect_answer bits w h).detections)) z)
 
-  pub text-listed : find_refusal bits w h ≡ 0 → found_text bits w h ≡ list_text w h (finders_of bits w h) (detections_of bits w h (finders_of bits w h))
+  pub text_listed : find_refusal bits w h ≡ 0 → found_text bits w h ≡ list_text w h (finders_of bits w h) (detections_of bits w h (finders_of bits w h))
   unfolding found_text answer_text detect_answer
-  text-listed z =
+  text_listed z =
       let n = find_refusal bits w h in
       let fs = finders_of bits w h in
-      sym (unless_done n (refused_line n) (list_text w h fs (detections_in (detect_answer bits w h).detections)) z) ∙ ap (list_text w h fs) (answer-holds z)
+      sym (unless_done n (refused_line n) (list_text w h fs (detections_in (detect_answer bits w h).detections)) z) ∙ ap (list_text w h fs) (answer_holds z)
 
   module _ (f : Found) (e : f ≡ answer_of bits w h) where
     number : f.refusal ≡ find_refusal bits w h
@@ -82,43 +82,43 @@ module _ (bits : List ℕ) (w h : ℕ) where
     number = ap (λ (f : Found). f.refusal) e
 
     pub found-refused : (r : ℕ) (a b : List ℕ) → (f.refusal ≡ 0 → ⊥) → Wrote (refused_line f.refusal) 0 a r b → Wrote (found_text bits w h) 0 a r b
-    found-refused r a b z p = wrote_as (refused_line f.refusal) (found_text bits w h) 0 r a b (ap refused_line number ∙ sym (text-refused (λ i. z (number ∙ i)))) p
+    found-refused r a b z p = wrote_as (refused_line f.refusal) (found_text bits w h) 0 r a b (ap refused_line number ∙ sym (text_refused (λ i. z (number ∙ i)))) p
 
     module _ (z : f.refusal ≡ 0) where
       none : find_refusal bits w h ≡ 0
       none = sym number ∙ z
 
-      found-table : f.finders ≡ findersTable (finders_of bits w h)
+      found_table : f.finders ≡ finders_table (finders_of bits w h)
       unfolding answer_of
-      found-table = ap (λ (f : Found). f.finders) e ∙ ap findersTable (sym (unless_done (find_refusal bits w h) [] (finders_of bits w h) none))
+      found_table = ap (λ (f : Found). f.finders) e ∙ ap finders_table (sym (unless_done (find_refusal bits w h) [] (finders_of bits w h) none))
 
-      detected : (t : Eight) (x : Answer) → ((gs : List Finder) → f.finders ≡ findersTable gs → t ≡ eight_of gs) → x ≡ from_answer bits w h (in_use t) → x.detections ≡ table_of (detections_of bits w h (finders_of bits w h))
+      detected : (t : Eight) (x : Answer) → ((gs : List Finder) → f.finders ≡ finders_table gs → t ≡ eight_of gs) → x ≡ from_answer bits w h (in_use t) → x.detections ≡ table_of (detections_of bits w h (finders_of bits w h))
       unfolding detect_answer
       detected t x k g =
           let n = find_refusal bits w h in
           let fs = finders_of bits w h in
-          let y : x ≡ detect_answer bits w h = g ∙ from-eight bits w h fs t (k fs found-table) ∙ sym (same_answer bits w h none) in
+          let y : x ≡ detect_answer bits w h = g ∙ from-eight bits w h fs t (k fs found_table) ∙ sym (same_answer bits w h none) in
           ap (λ (x : Answer). x.detections) y ∙ ap table_of (sym (unless_done n [] (detections_of bits w h fs) none))
 
-      pub found-listed : (t : Eight) (x : Answer) (r : ℕ) (a b : List ℕ) → ((gs : List Finder) → f.finders ≡ findersTable gs → t ≡ eight_of gs) → x ≡ from_answer bits w h (in_use t)
-          → ((fs : List Finder) (ds : List Detection) → f.finders ≡ findersTable fs → x.detections ≡ table_of ds → Wrote (list_text w h fs ds) 0 a r b) → Wrote (found_text bits w h) 0 a r b
-      found-listed t x r a b k g p =
+      pub found_listed : (t : Eight) (x : Answer) (r : ℕ) (a b : List ℕ) → ((gs : List Finder) → f.finders ≡ finders_table gs → t ≡ eight_of gs) → x ≡ from_answer bits w h (in_use t)
+          → ((fs : List Finder) (ds : List Detection) → f.finders ≡ finders_table fs → x.detections ≡ table_of ds → Wrote (list_text w h fs ds) 0 a r b) → Wrote (found_text bits w h) 0 a r b
+      found_listed t x r a b k g p =
           let fs = finders_of bits w h in
           let ds = detections_of bits w h fs in
-          wrote_as (list_text w h fs ds) (found_text bits w h) 0 r a b (sym (text-listed none)) (p fs ds found-table (detected t x k g))
+          wrote_as (list_text w h fs ds) (found_text bits w h) 0 r a b (sym (text_listed none)) (p fs ds found_table (detected t x k g))
 
 -- ---- the picture
 -- what stands behind a picture's bits is not read
 found_text_tail : (bits : List ℕ) (w h : ℕ) → found_text (take (bytes_of (w * h)) bits) w h ≡ found_text bits w h
 unfolding found_text
-found_text_tail bits w h = ap₂ (answer_text w h) (finders-tail bits w h) (answer-tail bits w h)
+found_text_tail bits w h = ap₂ (answer_text w h) (finders_tail bits w h) (answer_tail bits w h)
 
 -- the text of what the stages leave, where they answer n
-pub chain_wrote : (n : ℕ) (p : List ℕ) (w h : ℕ) (old done : List ℕ) (r : ℕ) (a b : List ℕ) → n ≡ 0 → done ≡ left_after n (denoisedPicture p w h w 1) old
+pub chain_wrote : (n : ℕ) (p : List ℕ) (w h : ℕ) (old done : List ℕ) (r : ℕ) (a b : List ℕ) → n ≡ 0 → done ≡ left_after n (denoised_picture p w h w 1) old
     → Wrote (found_text done w h) 0 a r b → Wrote (chain_text p w h) 0 a r b
 unfolding chain_text chain_of found_text
 chain_wrote n p w h old done r a b z e q =
-    let d = denoisedPicture p w h w 1 in
+    let d = denoised_picture p w h w 1 in
     let t : found_text done w h ≡ found_text d w h = sym (found_text_tail done w h) ∙ ap (λ (d : List ℕ). found_text d w h) (denoised_first n p w h w 1 z old done e) in
     wrote_as (found_text done w h) (found_text d w h) 0 r a b t q
 

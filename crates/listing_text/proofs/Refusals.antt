@@ -25,37 +25,37 @@ unfolding listing_refusal
 refuses_few l p = rw (lt-ltb (length l) 4 p)
 
 module _ (l : List ℕ) (w h : ℕ) (e : w ≡ read_le 2 l 0) (f : h ≡ read_le 2 l 2) (long : 4 ≤ length l) (z : Bool) (zs : z ≡ zero_side w h) where
-  pub refuses-zero : z ≡ true → 1 ≡ listing_refusal l
+  pub refuses_zero : z ≡ true → 1 ≡ listing_refusal l
   unfolding listing_refusal
-  refuses-zero t = let q : zero_side w h ≡ true = sym zs ∙ t in rw (le-ltb (length l) 4 long, ← e, ← f, q)
+  refuses_zero t = let q : zero_side w h ≡ true = sym zs ∙ t in rw (le-ltb (length l) 4 long, ← e, ← f, q)
 
   module _ (zf : z ≡ false) (g : Bool) (gs : g ≡ large_side w h) where
-    pub refuses-large : g ≡ true → 2 ≡ listing_refusal l
+    pub refuses_large : g ≡ true → 2 ≡ listing_refusal l
     unfolding listing_refusal
-    refuses-large t =
+    refuses_large t =
         let p : zero_side w h ≡ false = sym zs ∙ zf in
         let q : large_side w h ≡ true = sym gs ∙ t in
         rw (le-ltb (length l) 4 long, ← e, ← f, p, q)
 
     module _ (gf : g ≡ false) (n : ℕ) (ns : n ≡ w * h) where
-      pub refuses-many : max_pixels < n → 5 ≡ listing_refusal l
+      pub refuses_many : max_pixels < n → 5 ≡ listing_refusal l
       unfolding listing_refusal
-      refuses-many t =
+      refuses_many t =
           let p : zero_side w h ≡ false = sym zs ∙ zf in
           let q : large_side w h ≡ false = sym gs ∙ gf in
           rw (le-ltb (length l) 4 long, ← e, ← f, p, q, ← ns, lt-ltb max_pixels n t)
 
-      pub refuses-short : n ≤ max_pixels → length l - 4 < n → 4 ≡ listing_refusal l
+      pub refuses_short : n ≤ max_pixels → length l - 4 < n → 4 ≡ listing_refusal l
       unfolding listing_refusal
-      refuses-short m t =
+      refuses_short m t =
           let p : zero_side w h ≡ false = sym zs ∙ zf in
           let q : large_side w h ≡ false = sym gs ∙ gf in
           let u : length (drop 4 l) < n = simp length-drop (omega arith) in
           rw (le-ltb (length l) 4 long, ← e, ← f, p, q, ← ns, le-ltb max_pixels n m, lt-ltb (length (drop 4 l)) n u)
 
-      pub refuses-none : n ≤ max_pixels → n ≤ length l - 4 → 0 ≡ listing_refusal l
+      pub refuses_none : n ≤ max_pixels → n ≤ length l - 4 → 0 ≡ listing_refusal l
       unfolding listing_refusal
-      refuses-none m t =
+      refuses_none m t =
           let p : zero_side w h ≡ false = sym zs ∙ zf in
           let q : large_side w h ≡ false = sym gs ∙ gf in
           let u : n ≤ length (drop 4 l) = simp length-drop (omega arith) in
@@ -87,30 +87,30 @@ blocks_few w h s m =
     let p : 8 * blocks_on h * (8 * blocks_on w) ≤ (h + 7) * (w + 7) = mul_bound (8 * blocks_on h) (8 * blocks_on w) (h + 7) (w + 7) a b in
     let x : 8 * blocks_on h * (8 * blocks_on w) ≡ 64 * (blocks_on h * blocks_on w) = omega arith in
     let y : (h + 7) * (w + 7) ≡ w * h + 7 * w + 7 * h + 49 = omega arith in
-    let u = s.w-most in
-    let v = s.h-most in
+    let u = s.w_most in
+    let v = s.h_most in
     omega (arith, p, x, y, m, u, v)
 
 module _ (w h : ℕ) (p : List ℕ) (k : Passed w h p) where
   few : blocks_in w h ≤ 1600
   few = blocks_few w h (sides_pass w h k.0 k.1) k.2
 
-  long-picture : short_picture (length p) w h w 1 ≡ false
+  long_picture : short_picture (length p) w h w 1 ≡ false
   unfolding short_picture
-  long-picture =
+  long_picture =
       let s = sides_pass w h k.0 k.1 in
       let a : w * 1 ≤ w = omega arith in
-      let b : (h - 1) * w + w ≤ h * w = row_within (h - 1) h w (omega (arith, s.h-pos)) in
+      let b : (h - 1) * w + w ≤ h * w = row_within (h - 1) h w (omega (arith, s.h_pos)) in
       let c : (h - 1) * w + w * 1 ≤ length p = omega (arith, b, k.3) in
       rw (le-ltb w (w * 1) a, le-ltb (length p) ((h - 1) * w + w * 1) c)
 
-  enough-room : short_room w h max_pixels 5000 5000 (1600 ∷ 1600 ∷ 1600 ∷ 1600 ∷ 1600 ∷ []) ≡ false
+  enough_room : short_room w h max_pixels 5000 5000 (1600 ∷ 1600 ∷ 1600 ∷ 1600 ∷ 1600 ∷ []) ≡ false
   unfolding short_room under
-  enough-room =
+  enough_room =
       let b : bytes_of (w * h) ≤ 5000 = omega (arith, k.2) in
       rw (le-ltb max_pixels (w * h) k.2, le-ltb 5000 (bytes_of (w * h)) b, le-ltb 1600 (blocks_in w h) few)
 
   -- refuse nothing in slices that are enough for any such picture
-  pub stages-pass : stages_refusal (length p) w h w 1 max_pixels 5000 5000 (1600 ∷ 1600 ∷ 1600 ∷ 1600 ∷ 1600 ∷ []) ≡ 0
+  pub stages_pass : stages_refusal (length p) w h w 1 max_pixels 5000 5000 (1600 ∷ 1600 ∷ 1600 ∷ 1600 ∷ 1600 ∷ []) ≡ 0
   unfolding stages_refusal unknown_format
-  stages-pass = rw (k.0, k.1, long-picture, enough-room)
+  stages_pass = rw (k.0, k.1, long_picture, enough_room)

@@ -19,7 +19,7 @@ use Rattle.finders.specs.Answer.{finders_of}
 use Rattle.candidates.specs.declared.Answer.{Answer}
 use Rattle.candidates.specs.declared.Detection.{Detection}
 use Rattle.candidates.specs.declared.Detections.{Detections}
-use Rattle.stages.specs.Pictures.{denoisedPicture}
+use Rattle.stages.specs.Pictures.{denoised_picture}
 use Rattle.chain.specs.Chain.{chain_of}
 use Rattle.listing_text.specs.Text.{decimal_text, single_text, double_text, dash, line_text}
 
@@ -101,7 +101,7 @@ answer_text w h fs a = unless a.refusal (refused_line a.refusal) (list_text w h 
 unfoldable pub chain_text : List ℕ → ℕ → ℕ → List ℕ
 chain_text p w h =
     let f = channels_of Gray8 in
-    answer_text w h (finders_of (denoisedPicture p w h w f) w h) (chain_of p w h w f)
+    answer_text w h (finders_of (denoised_picture p w h w f) w h) (chain_of p w h w f)
 
 -- every character that is printed for an input
 unfoldable pub listing_of : List ℕ → List ℕ

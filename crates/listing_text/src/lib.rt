@@ -1,4 +1,6 @@
 // Document 01's listing: every character of the text that the program prints for an input.
+#![tactic(auto)]
+
 ghost use Rattle.std.specs.Prelude.{◌≡◌, ◌++◌, ◌*◌, ◌≤◌, length, take, drop};
 ghost use Rattle.lcr_core.specs.Outcome.{number_of};
 ghost use Rattle.listing_text.specs.Inner.{Passed, Wrote, found_text};

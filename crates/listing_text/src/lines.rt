@@ -2,7 +2,7 @@
 ghost use Rattle.std.specs.Prelude.{◌≡◌, List, ◌+◌, ◌*◌, ◌^◌, ◌≤◌, ◌<◌};
 ghost use Rattle.lists.specs.Lists.{flat_map};
 ghost use Rattle.finders.specs.Search.{max_finders};
-ghost use Rattle.finders.specs.Answer.{held_in, table_of as findersTable};
+ghost use Rattle.finders.specs.Answer.{held_in, table_of as finders_table};
 ghost use Rattle.candidates.specs.Candidates.{table_of};
 ghost use Rattle.listing_text.specs.Inner.{Wrote, spaced};
 ghost use Rattle.listing_text.specs.Listing.{refused_line, head_line, finder_line, marker_fields, number_fields, detection_line, list_text, detections_in, single_room, double_room, head_room, finder_room, detection_room, listing_room};
@@ -144,7 +144,7 @@ pub fn put_list(
     found: Finders,
     detected: Detections,
 ) -> u32
-    ensures text { (fs : List Finder) (ds : List Detection) → found ≡ findersTable fs → detected ≡ table_of ds → Wrote (list_text width height fs ds) 0 text.old result text.new }
+    ensures text { (fs : List Finder) (ds : List Detection) → found ≡ finders_table fs → detected ≡ table_of ds → Wrote (list_text width height fs ds) 0 text.old result text.new }
     ensures most { result ≤ listing_room }
 {
     let n = found.count;

@@ -58,9 +58,9 @@ module _ {A B : Type 0} where
   map_same f g [] h = refl
   map_same f g (x ∷ xs) h = rw (h.0, map_same f g xs h.1)
 
-  pub each-of-map : (P : B → Type 0) (f : A → B) (xs : List A) → Each (λ (x : A). P (f x)) xs → Each P (map f xs)
-  each-of-map P f [] h = tt
-  each-of-map P f (x ∷ xs) h = (h.0, each-of-map P f xs h.1)
+  pub each_of_map : (P : B → Type 0) (f : A → B) (xs : List A) → Each (λ (x : A). P (f x)) xs → Each P (map f xs)
+  each_of_map P f [] h = tt
+  each_of_map P f (x ∷ xs) h = (h.0, each_of_map P f xs h.1)
 
   pub folded_map : {S : Type 0} (g : S → B → S) (f : A → B) (s : S) (xs : List A) → folded g s (map f xs) ≡ folded (λ (u : S) (x : A). g u (f x)) s xs
   unfolding folded
@@ -87,26 +87,26 @@ module _ {S : Type 0} (g : S → ℕ → S) where
 
 -- ---- one list after the other
 module _ {A B : Type 0} (f : A → List B) where
-  pub flatMap-append : (xs ys : List A) → flat_map f (xs ++ ys) ≡ flat_map f xs ++ flat_map f ys
+  pub flat_map-append : (xs ys : List A) → flat_map f (xs ++ ys) ≡ flat_map f xs ++ flat_map f ys
   unfolding flat_map
-  flatMap-append [] ys = refl
-  flatMap-append (x ∷ xs) ys = rw (flatMap-append xs ys) (sym (append_assoc (f x) (flat_map f xs) (flat_map f ys)))
+  flat_map-append [] ys = refl
+  flat_map-append (x ∷ xs) ys = rw (flat_map-append xs ys) (sym (append_assoc (f x) (flat_map f xs) (flat_map f ys)))
 
-  pub flatMap-same : (g : A → List B) (xs : List A) → Each (λ (x : A). f x ≡ g x) xs → flat_map f xs ≡ flat_map g xs
+  pub flat_map_same : (g : A → List B) (xs : List A) → Each (λ (x : A). f x ≡ g x) xs → flat_map f xs ≡ flat_map g xs
   unfolding flat_map
-  flatMap-same g [] h = refl
-  flatMap-same g (x ∷ xs) h = rw (h.0, flatMap-same g xs h.1)
+  flat_map_same g [] h = refl
+  flat_map_same g (x ∷ xs) h = rw (h.0, flat_map_same g xs h.1)
 
   -- the first p + 1 of a list
-  pub flatMap-take : (xs : List A) (p : ℕ) (d : A) → p < length xs → flat_map f (take (p + 1) xs) ≡ flat_map f (take p xs) ++ f (get_or xs p d)
+  pub flat_map-take : (xs : List A) (p : ℕ) (d : A) → p < length xs → flat_map f (take (p + 1) xs) ≡ flat_map f (take p xs) ++ f (get_or xs p d)
   unfolding flat_map
-  flatMap-take xs p d h = rw (add-one, take-suc xs p d) (flatMap-append (take p xs) (get_or xs p d ∷ []) ∙ ap (λ l. flat_map f (take p xs) ++ l) (append-nil (f (get_or xs p d))))
+  flat_map-take xs p d h = rw (add-one, take-suc xs p d) (flat_map-append (take p xs) (get_or xs p d ∷ []) ∙ ap (λ l. flat_map f (take p xs) ++ l) (append-nil (f (get_or xs p d))))
 
   -- where each gives one at most
-  pub flatMap-few : ((x : A) → length (f x) ≤ 1) → (xs : List A) → length (flat_map f xs) ≤ length xs
+  pub flat_map_few : ((x : A) → length (f x) ≤ 1) → (xs : List A) → length (flat_map f xs) ≤ length xs
   unfolding flat_map
-  flatMap-few h [] = omega arith
-  flatMap-few h (x ∷ xs) = rw (length-append (f x) (flat_map f xs)) (omega (arith, h x, flatMap-few h xs))
+  flat_map_few h [] = omega arith
+  flat_map_few h (x ∷ xs) = rw (length-append (f x) (flat_map f xs)) (omega (arith, h x, flat_map_few h xs))
 
 pub flat_map-none : {B : Type 0} (f : ℕ → List B) (a b : ℕ) → b ≤ a → flat_map f (range a b) ≡ []
 unfolding flat_map
@@ -114,7 +114,7 @@ flat_map-none f a b h = ap (flat_map f) (range_none a b h)
 
 pub flat_map_more : {B : Type 0} (f : ℕ → List B) (a b : ℕ) → a ≤ b → flat_map f (range a (suc b)) ≡ flat_map f (range a b) ++ f b
 unfolding flat_map
-flat_map_more f a b h = ap (flat_map f) (range_more a b h) ∙ flatMap-append f (range a b) (b ∷ []) ∙ ap (λ l. flat_map f (range a b) ++ l) (append-nil (f b))
+flat_map_more f a b h = ap (flat_map f) (range_more a b h) ∙ flat_map-append f (range a b) (b ∷ []) ∙ ap (λ l. flat_map f (range a b) ++ l) (append-nil (f b))
 
 pub each_flat_map : {B : Type 0} (P : B → Type 0) (f : ℕ → List B) (a b : ℕ) → ((x : ℕ) → a ≤ x → x < b → Each P (f x)) → Each P (flat_map f (range a b))
 each_flat_map P f a zero h = subst (Each P) (sym (flat_map-none f a 0 (omega arith))) tt

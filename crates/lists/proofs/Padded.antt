@@ -21,12 +21,12 @@ module _ {A : Type 0} (n : ℕ) (z : A) where
   pub take-padded : (xs : List A) → take (length xs) (padded n z xs) ≡ xs
   take-padded xs = take_at xs _ (length xs) refl
 
-  pub getD-padded : (xs : List A) (i : ℕ) (d e : A) → i < length xs → get_or (padded n z xs) i d ≡ get_or xs i e
-  getD-padded xs i d e h = get_or-append xs _ d i h ∙ get_d_any xs i d e h
+  pub get_or-padded : (xs : List A) (i : ℕ) (d e : A) → i < length xs → get_or (padded n z xs) i d ≡ get_or xs i e
+  get_or-padded xs i d e h = get_or-append xs _ d i h ∙ get_d_any xs i d e h
 
   -- any place of the table
-  pub getD-table : (xs : List A) (i : ℕ) (d : A) → i < n → get_or (padded n z xs) i d ≡ get_or xs i z
-  getD-table xs i d h = go n xs i h
+  pub get_or_table : (xs : List A) (i : ℕ) (d : A) → i < n → get_or (padded n z xs) i d ≡ get_or xs i z
+  get_or_table xs i d h = go n xs i h
     where
       go : (n : ℕ) (xs : List A) (i : ℕ) → i < n → get_or (padded n z xs) i d ≡ get_or xs i z
       go n [] i h = let e : n - 0 ≡ n = omega arith in rw e (get_or-replicate n i z d h)
@@ -36,7 +36,7 @@ module _ {A : Type 0} (n : ℕ) (z : A) where
           rw e (go (n - 1) xs i (omega arith))
 
   -- one more is stored in the first free place
-  pub padded-more : (xs : List A) (x : A) → length xs < n → set (padded n z xs) (length xs) x ≡ padded n z (xs ++ (x ∷ []))
-  padded-more xs x h =
+  pub padded_more : (xs : List A) (x : A) → length xs < n → set (padded n z xs) (length xs) x ≡ padded n z (xs ++ (x ∷ []))
+  padded_more xs x h =
       let e : n - length xs ≡ suc (n - (length xs + 1)) = omega arith in
       rw (e, length-append xs (x ∷ [])) (set_at xs z (replicate (n - (length xs + 1)) z) x (length xs) refl ∙ sym (append_snoc xs x (replicate (n - (length xs + 1)) z)))

@@ -16,11 +16,11 @@ module _ {A : Type 0} where
   length-tabulate zero f = refl
   length-tabulate (suc n) f = length-append (tabulate n f) (f n ∷ []) ∙ add-one (length (tabulate n f)) ∙ ap suc (length-tabulate n f)
 
-  pub tabulate-ext : (n : ℕ) (f g : ℕ → A) → ((k : ℕ) → k < n → f k ≡ g k) → tabulate n f ≡ tabulate n g
+  pub tabulate_ext : (n : ℕ) (f g : ℕ → A) → ((k : ℕ) → k < n → f k ≡ g k) → tabulate n f ≡ tabulate n g
   unfolding tabulate
-  tabulate-ext zero f g h = refl
-  tabulate-ext (suc n) f g h =
-      rw (tabulate-ext n f g (λ k l. h k (omega arith)), h n (omega arith)) refl
+  tabulate_ext zero f g h = refl
+  tabulate_ext (suc n) f g h =
+      rw (tabulate_ext n f g (λ k l. h k (omega arith)), h n (omega arith)) refl
 
   pub tabulate-add : (a n : ℕ) (f : ℕ → A) → tabulate (a + n) f ≡ tabulate a f ++ tabulate n (λ k. f (a + k))
   unfolding tabulate
@@ -35,8 +35,8 @@ module _ {A : Type 0} where
   unfolding tabulate
   filled_none f d = refl
 
-  pub filled-same : (n : ℕ) (f g : ℕ → A) (d : List A) → ((k : ℕ) → k < n → f k ≡ g k) → filled n f d ≡ filled n g d
-  filled-same n f g d h = ap (λ (l : List A). l ++ drop n d) (tabulate-ext n f g h)
+  pub filled_same : (n : ℕ) (f g : ℕ → A) (d : List A) → ((k : ℕ) → k < n → f k ≡ g k) → filled n f d ≡ filled n g d
+  filled_same n f g d h = ap (λ (l : List A). l ++ drop n d) (tabulate_ext n f g h)
 
   -- one store more
   pub filled_more : (n : ℕ) (f : ℕ → A) (d : List A) → n < length d → set (filled n f d) n (f n) ≡ filled (n + 1) f d
@@ -46,19 +46,19 @@ module _ {A : Type 0} where
       (set_at (tabulate n f) (get_or d n (f n)) (drop (suc n) d) (f n) n (length-tabulate n f) ∙ sym (append_snoc (tabulate n f) (f n) (drop (suc n) d)))
 
   -- a part that was filled in whole, put back into the list that was filled up to it
-  pub filled-part : (a n : ℕ) (f : ℕ → A) (d : List A)
+  pub filled_part : (a n : ℕ) (f : ℕ → A) (d : List A)
       → take a (filled a f d) ++ (tabulate n (λ k. f (a + k)) ++ drop n (drop a (filled a f d))) ≡ filled (a + n) f d
-  filled-part a n f d =
+  filled_part a n f d =
       rw (take_at (tabulate a f) (drop a d) a (length-tabulate a f), drop_at (tabulate a f) (drop a d) a (length-tabulate a f), drop-drop n a d, tabulate-add a n f)
       (sym (append_assoc (tabulate a f) (tabulate n (λ k. f (a + k))) (drop (a + n) d)))
 
   -- the same, of a list that is filled so far, and of a value that is the next
-  pub filled-step : (n : ℕ) (f : ℕ → A) (d l : List A) (v : A) → n < length d → l ≡ filled n f d → v ≡ f n → set l n v ≡ filled (n + 1) f d
-  filled-step n f d l v h e q = rw (e, q) (filled_more n f d h)
+  pub filled_step : (n : ℕ) (f : ℕ → A) (d l : List A) (v : A) → n < length d → l ≡ filled n f d → v ≡ f n → set l n v ≡ filled (n + 1) f d
+  filled_step n f d l v h e q = rw (e, q) (filled_more n f d h)
 
   -- all of it is filled
-  pub filled-whole : (n : ℕ) (f : ℕ → A) (d l : List A) → n ≡ length d → l ≡ filled n f d → l ≡ tabulate (length d) f
-  filled-whole n f d l h e =
+  pub filled_whole : (n : ℕ) (f : ℕ → A) (d l : List A) → n ≡ length d → l ≡ filled n f d → l ≡ tabulate (length d) f
+  filled_whole n f d l h e =
       e ∙ rw h (ap (λ (t : List A). tabulate (length d) f ++ t) (drop-length d) ∙ append-nil (tabulate (length d) f))
 
   -- a part of w elements from a
@@ -69,7 +69,7 @@ module _ {A : Type 0} where
   pub filled_row : (a w : ℕ) (f g : ℕ → A) (d l part : List A) → l ≡ filled a f d → part ≡ tabulate w g → ((i : ℕ) → i < w → g i ≡ f (a + i))
       → take a l ++ (part ++ drop (a + w - a) (drop a l)) ≡ filled (a + w) f d
   filled_row a w f g d l part e p h =
-      rw (e, p, tabulate-ext w g (λ k. f (a + k)) h, add-sub_cancel_left) (filled-part a w f d)
+      rw (e, p, tabulate_ext w g (λ k. f (a + k)) h, add-sub_cancel_left) (filled_part a w f d)
 
   pub get_d_tabulate : (n : ℕ) (f : ℕ → A) (i : ℕ) (d : A) → i < n → get_or (tabulate n f) i d ≡ f i
   unfolding tabulate
@@ -80,6 +80,6 @@ module _ {A : Type 0} where
       go ih (inl e) = rw e (get_or_at (tabulate n f) (f n) [] d n (length-tabulate n f))
       go ih (inr l) = let k : i < length (tabulate n f) = rw length-tabulate l in get_or-append (tabulate n f) (f n ∷ []) d i k ∙ ih l
 
-  pub getD-filled : (n : ℕ) (f : ℕ → A) (l : List A) (i : ℕ) (d : A) → i < n → get_or (filled n f l) i d ≡ f i
-  getD-filled n f l i d h =
+  pub get_or-filled : (n : ℕ) (f : ℕ → A) (l : List A) (i : ℕ) (d : A) → i < n → get_or (filled n f l) i d ≡ f i
+  get_or-filled n f l i d h =
       let k : i < length (tabulate n f) = rw length-tabulate h in get_or-append (tabulate n f) (drop n l) d i k ∙ get_d_tabulate n f i d h

@@ -6,7 +6,7 @@ use native.Mathlib.Omega.{arith}
 use lib.ListN.{length, take, get_or, length-append}
 use lib.Seq.{length-take-le}
 use Rattle.lists.specs.Lists.{flat_map}
-use Rattle.lists.proofs.Folds.{flatMap-take}
+use Rattle.lists.proofs.Folds.{flat_map-take}
 use Rattle.little_endian.specs.Bytes.{put}
 use Rattle.little_endian.proofs.Halves.{put-append}
 
@@ -16,17 +16,17 @@ put_then n xs ys i j l e p = ap (λ z. put ys z (put xs i l)) (p ∙ ap (λ z. i
 
 -- pieces of n bytes each
 module _ {A : Type 0} (g : A → List ℕ) (n : ℕ) (long : (a : A) → length (g a) ≡ n) where
-  pub length-flat : (xs : List A) → length (flat_map g xs) ≡ n * length xs
+  pub length_flat : (xs : List A) → length (flat_map g xs) ≡ n * length xs
   unfolding flat_map
-  length-flat [] = omega arith
-  length-flat (x ∷ xs) = omega (arith, length-append (g x) (flat_map g xs), long x, length-flat xs)
+  length_flat [] = omega arith
+  length_flat (x ∷ xs) = omega (arith, length-append (g x) (flat_map g xs), long x, length_flat xs)
 
   -- one piece more
-  pub piece-more : (xs : List A) (base k : ℕ) (d : A) (l out : List ℕ) → k < length xs → out ≡ put (flat_map g (take k xs)) base l
+  pub piece_more : (xs : List A) (base k : ℕ) (d : A) (l out : List ℕ) → k < length xs → out ≡ put (flat_map g (take k xs)) base l
       → put (g (get_or xs k d)) (base + n * k) out ≡ put (flat_map g (take (k + 1) xs)) base l
-  piece-more xs base k d l out h e =
+  piece_more xs base k d l out h e =
       let m : k ≤ length xs = omega arith in
-      let z : length (flat_map g (take k xs)) ≡ n * k = length-flat (take k xs) ∙ ap (λ z. n * z) (length-take-le k xs m) in
+      let z : length (flat_map g (take k xs)) ≡ n * k = length_flat (take k xs) ∙ ap (λ z. n * z) (length-take-le k xs m) in
       ap (put (g (get_or xs k d)) (base + n * k)) e
       ∙ put_then (n * k) (flat_map g (take k xs)) (g (get_or xs k d)) base (base + n * k) l z refl
-      ∙ ap (λ z. put z base l) (sym (flatMap-take g xs k d h))
+      ∙ ap (λ z. put z base l) (sym (flat_map-take g xs k d h))

@@ -1,4 +1,6 @@
 // Numbers as bytes in a slice, the lowest first. Total: a byte beyond the slice reads as 0 and is not written.
+#![tactic(auto)]
+
 ghost use Rattle.std.specs.Prelude.{◌≡◌, get_or, set};
 ghost use Rattle.little_endian.specs.Bytes.{bytes_le, read_le, put};
 

@@ -18,34 +18,34 @@ use Rattle.float.specs.Constants.{d0, d1e_12}
 use Rattle.math.specs.Solve.{Matrix, Vector, swapped, reduced, pivot_row, pivoted, row_cleared, cleared, upper, small_pivot, singular, remainder, unknowns, eight, none, solution_of}
 use Rattle.math.specs.Table.{entry, replaced, Holds}
 use Rattle.math.specs.declared.Solution.{Solution}
-use Rattle.math.proofs.Tables.{same_or_not, replaced-here, replaced-row, replaced-column, mixed, mixed-above, mixed-start, mixed-more}
+use Rattle.math.proofs.Tables.{same_or_not, replaced_here, replaced-row, replaced-column, mixed, mixed_above, mixed_start, mixed_more}
 
 -- ---- the pivot's row
 module _ (m : Matrix) (c : ℕ) where
-  pub pivot-low : (r : ℕ) → r ≤ c + 1 → pivot_row m c r ≡ c
+  pub pivot_low : (r : ℕ) → r ≤ c + 1 → pivot_row m c r ≡ c
   unfolding pivot_row
-  pivot-low zero h = refl
-  pivot-low (suc r) h = rw (le-ltb c r (omega arith)) (pivot-low r (omega arith))
+  pivot_low zero h = refl
+  pivot_low (suc r) h = rw (le-ltb c r (omega arith)) (pivot_low r (omega arith))
 
-  pub pivot-more : (r : ℕ) → c < r → pivot_row m c (r + 1) ≡ cond (lt (abs_of (m (pivot_row m c r) c)) (abs_of (m r c))) r (pivot_row m c r)
+  pub pivot_more : (r : ℕ) → c < r → pivot_row m c (r + 1) ≡ cond (lt (abs_of (m (pivot_row m c r) c)) (abs_of (m r c))) r (pivot_row m c r)
   unfolding pivot_row
-  pivot-more r h = rw (add-one r, lt-ltb c r h)
+  pivot_more r h = rw (add-one r, lt-ltb c r h)
 
-  pub pivot-turn : (r p p' : ℕ) (b : Bool) → c < r → p ≡ pivot_row m c r → lt (abs_of (m p c)) (abs_of (m r c)) ≡ b → p' ≡ cond b r p → p' ≡ pivot_row m c (r + 1)
-  pivot-turn r p p' b h e t q =
-      q ∙ ap (λ (b : Bool). cond b r p) (sym t) ∙ ap (λ (p : ℕ). cond (lt (abs_of (m p c)) (abs_of (m r c))) r p) e ∙ sym (pivot-more r h)
+  pub pivot_turn : (r p p' : ℕ) (b : Bool) → c < r → p ≡ pivot_row m c r → lt (abs_of (m p c)) (abs_of (m r c)) ≡ b → p' ≡ cond b r p → p' ≡ pivot_row m c (r + 1)
+  pivot_turn r p p' b h e t q =
+      q ∙ ap (λ (b : Bool). cond b r p) (sym t) ∙ ap (λ (p : ℕ). cond (lt (abs_of (m p c)) (abs_of (m r c))) r p) e ∙ sym (pivot_more r h)
 
 -- ---- two rows swapped: one column more
 module _ (n : ℕ) (m : Matrix) (p q k : ℕ) (N : n ≤ 8) (P : p < n) (Q : q < n) (K : k ≤ n) where
-  pub swap-more : (t t₁ t₂ : List Float) (x y : Float) → x ≡ entry t p k → y ≡ entry t q k
+  pub swap_more : (t t₁ t₂ : List Float) (x y : Float) → x ≡ entry t p k → y ≡ entry t q k
       → ((i j : ℕ) → j < 9 → entry t₁ i j ≡ replaced (entry t) p k y i j)
       → ((i j : ℕ) → j < 9 → entry t₂ i j ≡ replaced (entry t₁) q k x i j)
       → Holds n t (mixed k (swapped m p q) m) → Holds n t₂ (mixed (k + 1) (swapped m p q) m)
   unfolding replaced swapped
-  swap-more t t₁ t₂ x y ex ey w₁ w₂ h = mixed-more (swapped m p q) m n t k t₂ new old h
+  swap_more t t₁ t₂ x y ex ey w₁ w₂ h = mixed_more (swapped m p q) m n t k t₂ new old h
     where
       is : (i : ℕ) → i < n → entry t i k ≡ m i k
-      is i l = h i k l K ∙ mixed-above (swapped m p q) m k i k (omega arith)
+      is i l = h i k l K ∙ mixed_above (swapped m p q) m k i k (omega arith)
 
       new : (i : ℕ) → i < n → entry t₂ i k ≡ swapped m p q i k
       new i l = w₂ i k (omega arith) ∙ rw (w₁ i k (omega arith), eq-eqb k k refl) (go (eqb i q) (eqb i p))
@@ -61,42 +61,42 @@ module _ (n : ℕ) (m : Matrix) (p q k : ℕ) (N : n ≤ 8) (P : p < n) (Q : q <
 
 -- ---- a multiple of row c taken from row r: one column more
 module _ (m : Matrix) (c r : ℕ) (f : Float) where
-  reduced-here : (k : ℕ) → c ≤ k → reduced m c r f r k ≡ minus64 (m r k) (times64 f (m c k))
+  reduced_here : (k : ℕ) → c ≤ k → reduced m c r f r k ≡ minus64 (m r k) (times64 f (m c k))
   unfolding reduced
-  reduced-here k h = rw (eq-eqb r r refl, le-leb c k h)
+  reduced_here k h = rw (eq-eqb r r refl, le-leb c k h)
 
   reduced-row : (i k : ℕ) → (i ≡ r → ⊥) → reduced m c r f i k ≡ m i k
   unfolding reduced
   reduced-row i k h = rw (ne_eqb i r h)
 
-  reduced-left : (i k : ℕ) → k < c → reduced m c r f i k ≡ m i k
+  reduced_left : (i k : ℕ) → k < c → reduced m c r f i k ≡ m i k
   unfolding reduced
-  reduced-left i k h = rw (lt-leb c k h) (go (eqb i r))
+  reduced_left i k h = rw (lt-leb c k h) (go (eqb i r))
     where
       go : (b : Bool) → cond (b && false) (minus64 (m i k) (times64 f (m c k))) (m i k) ≡ m i k
       go true = refl
       go false = refl
 
-  pub reduce-start : (n : ℕ) (t : List Float) → Holds n t m → Holds n t (mixed c (reduced m c r f) m)
-  reduce-start n t h = mixed-start (reduced m c r f) m n t c reduced-left h
+  pub reduce_start : (n : ℕ) (t : List Float) → Holds n t m → Holds n t (mixed c (reduced m c r f) m)
+  reduce_start n t h = mixed_start (reduced m c r f) m n t c reduced_left h
 
-  pub reduce-more : (n k : ℕ) → n ≤ 8 → c < r → r < n → c ≤ k → k ≤ n → (t t₁ : List Float) (x y : Float) → x ≡ entry t r k → y ≡ entry t c k
+  pub reduce_more : (n k : ℕ) → n ≤ 8 → c < r → r < n → c ≤ k → k ≤ n → (t t₁ : List Float) (x y : Float) → x ≡ entry t r k → y ≡ entry t c k
       → ((i j : ℕ) → j < 9 → entry t₁ i j ≡ replaced (entry t) r k (minus64 x (times64 f y)) i j)
       → Holds n t (mixed k (reduced m c r f) m) → Holds n t₁ (mixed (k + 1) (reduced m c r f) m)
-  reduce-more n k N C R L K t t₁ x y ex ey w h = mixed-more (reduced m c r f) m n t k t₁ new old h
+  reduce_more n k N C R L K t t₁ x y ex ey w h = mixed_more (reduced m c r f) m n t k t₁ new old h
     where
       is : (i : ℕ) → i < n → entry t i k ≡ m i k
-      is i l = h i k l K ∙ mixed-above (reduced m c r f) m k i k (omega arith)
+      is i l = h i k l K ∙ mixed_above (reduced m c r f) m k i k (omega arith)
 
-      at-r : replaced (entry t) r k (minus64 x (times64 f y)) r k ≡ reduced m c r f r k
-      at-r =
-          replaced-here (entry t) r k (minus64 x (times64 f y)) ∙ ap (λ (z : Float). minus64 z (times64 f y)) (ex ∙ is r R)
-          ∙ ap (λ (z : Float). minus64 (m r k) (times64 f z)) (ey ∙ is c (omega arith)) ∙ sym (reduced-here k L)
+      at_r : replaced (entry t) r k (minus64 x (times64 f y)) r k ≡ reduced m c r f r k
+      at_r =
+          replaced_here (entry t) r k (minus64 x (times64 f y)) ∙ ap (λ (z : Float). minus64 z (times64 f y)) (ex ∙ is r R)
+          ∙ ap (λ (z : Float). minus64 (m r k) (times64 f z)) (ey ∙ is c (omega arith)) ∙ sym (reduced_here k L)
 
       new : (i : ℕ) → i < n → entry t₁ i k ≡ reduced m c r f i k
       new i l =
           w i k (omega arith)
-          ∙ ⊎_elim (λ e. subst (λ (i : ℕ). replaced (entry t) r k (minus64 x (times64 f y)) i k ≡ reduced m c r f i k) (sym e) at-r)
+          ∙ ⊎_elim (λ e. subst (λ (i : ℕ). replaced (entry t) r k (minus64 x (times64 f y)) i k ≡ reduced m c r f i k) (sym e) at_r)
           (λ ne. replaced-row (entry t) r k (minus64 x (times64 f y)) i k ne ∙ is i l ∙ sym (reduced-row i k ne)) (same_or_not i r)
 
       old : (i j : ℕ) → i < n → j ≤ n → (j ≡ k → ⊥) → entry t₁ i j ≡ entry t i j
@@ -112,10 +112,10 @@ unfolding row_cleared
 row-reduced n t m c r e h = rw e h
 
 module _ (m : Matrix) (c : ℕ) where
-  pub cleared-low : (r : ℕ) → r ≤ c + 1 → cleared m c r ≡ m
+  pub cleared_low : (r : ℕ) → r ≤ c + 1 → cleared m c r ≡ m
   unfolding cleared
-  cleared-low zero h = refl
-  cleared-low (suc r) h = rw (le-ltb c r (omega arith)) (cleared-low r (omega arith))
+  cleared_low zero h = refl
+  cleared_low (suc r) h = rw (le-ltb c r (omega arith)) (cleared_low r (omega arith))
 
   pub cleared_more : (r : ℕ) → c < r → cleared m c (r + 1) ≡ row_cleared (cleared m c r) c r
   unfolding cleared
@@ -143,39 +143,39 @@ module _ (n : ℕ) (m : Matrix) where
   unfolding singular
   singular-none = refl
 
-  pub singular-more : (c : ℕ) → singular n m c ≡ false → singular n m (c + 1) ≡ small_pivot n m c
+  pub singular_more : (c : ℕ) → singular n m c ≡ false → singular n m (c + 1) ≡ small_pivot n m c
   unfolding singular
-  singular-more c h = rw (add-one c, h)
+  singular_more c h = rw (add-one c, h)
 
   -- a small pivot is one for all columns after it
-  or-more : (a b : Bool) → a ≡ true → (a || b) ≡ true
-  or-more a b h = rw h
+  or_more : (a b : Bool) → a ≡ true → (a || b) ≡ true
+  or_more a b h = rw h
 
-  pub singular-on : (c : ℕ) → singular n m c ≡ true → (j : ℕ) → singular n m (c + j) ≡ true
+  pub singular_on : (c : ℕ) → singular n m c ≡ true → (j : ℕ) → singular n m (c + j) ≡ true
   unfolding singular
-  singular-on c h zero = rw (add-zero c) h
-  singular-on c h (suc j) = rw (add-suc c j) (or-more (singular n m (c + j)) (small_pivot n m (c + j)) (singular-on c h j))
+  singular_on c h zero = rw (add-zero c) h
+  singular_on c h (suc j) = rw (add-suc c j) (or_more (singular n m (c + j)) (small_pivot n m (c + j)) (singular_on c h j))
 
 -- ---- back substitution
 module _ (n : ℕ) (u : Matrix) (r : ℕ) (x : Vector) where
-  pub remainder-low : (k : ℕ) → k ≤ r + 1 → remainder n u r x k ≡ u r n
+  pub remainder_low : (k : ℕ) → k ≤ r + 1 → remainder n u r x k ≡ u r n
   unfolding remainder
-  remainder-low zero h = refl
-  remainder-low (suc k) h = rw (le-ltb r k (omega arith)) (remainder-low k (omega arith))
+  remainder_low zero h = refl
+  remainder_low (suc k) h = rw (le-ltb r k (omega arith)) (remainder_low k (omega arith))
 
-  pub remainder-more : (k : ℕ) → r < k → remainder n u r x (k + 1) ≡ minus64 (remainder n u r x k) (times64 (u r k) (x k))
+  pub remainder_more : (k : ℕ) → r < k → remainder n u r x (k + 1) ≡ minus64 (remainder n u r x k) (times64 (u r k) (x k))
   unfolding remainder
-  remainder-more k h = rw (add-one k, lt-ltb r k h)
+  remainder_more k h = rw (add-one k, lt-ltb r k h)
 
 module _ (n : ℕ) (u : Matrix) where
   pub unknowns-none : (k : ℕ) → unknowns n u (n - n) k ≡ d0
   unfolding unknowns
   unknowns-none k = ap (λ (j : ℕ). unknowns n u j k) (sub_self n)
 
-  unknowns-more : (r k : ℕ) → 0 < r → r ≤ n
+  unknowns_more : (r k : ℕ) → 0 < r → r ≤ n
       → unknowns n u (n - (r - 1)) k ≡ cond (eqb k (r - 1)) (over64 (remainder n u (r - 1) (unknowns n u (n - r)) n) (u (r - 1) (r - 1))) (unknowns n u (n - r) k)
   unfolding unknowns
-  unknowns-more r k h l =
+  unknowns_more r k h l =
       let up : n - (r - 1) ≡ suc (n - r) = omega arith in
       let row : n - suc (n - r) ≡ r - 1 = omega arith in
       ap (λ (j : ℕ). unknowns n u j k) up
@@ -193,7 +193,7 @@ pub unknowns_turn : (n : ℕ) (u : Matrix) (r : ℕ) (x : List Float) (v : Float
 unknowns_turn n u r x v h l g is e k b =
     set_at x (r - 1) k v g ∙ ap (λ (w : Float). cond (eqb k (r - 1)) w (get_or x k nan)) e
     ∙ ap (λ (w : Float). cond (eqb k (r - 1)) (over64 (remainder n u (r - 1) (unknowns n u (n - r)) n) (u (r - 1) (r - 1))) w) (is k b)
-    ∙ sym (unknowns-more n u r k h l)
+    ∙ sym (unknowns_more n u r k h l)
 
 eight-at : (y : Vector) (k : ℕ) → k < 8 → get_or (eight y) k nan ≡ y k
 eight-at y zero h = refl
@@ -219,9 +219,9 @@ not_false true h = refl
 not_false false h = absurd (true≢false (sym h))
 
 module _ (n : ℕ) (m : Matrix) (ok : Bool) (e : ok ≡ not (singular n m n)) where
-  pub found-is : ok ≡ true → (x : List Float) → x ≡ eight (unknowns n (upper n m n) n) → ◌≡◌ {A = Solution} (record { found = true; x = x }) (solution_of n m)
+  pub found_is : ok ≡ true → (x : List Float) → x ≡ eight (unknowns n (upper n m n) n) → ◌≡◌ {A = Solution} (record { found = true; x = x }) (solution_of n m)
   unfolding solution_of
-  found-is h x g = rw (not_true (singular n m n) (sym h ∙ e), g)
+  found_is h x g = rw (not_true (singular n m n) (sym h ∙ e), g)
 
   pub none_is : ok ≡ false → none ≡ solution_of n m
   unfolding solution_of

@@ -31,9 +31,9 @@ and_false false = refl
 
 -- ---- one entry replaced
 module _ (m : Matrix) (r k : ℕ) (x : Float) where
-  pub replaced-here : replaced m r k x r k ≡ x
+  pub replaced_here : replaced m r k x r k ≡ x
   unfolding replaced
-  replaced-here = rw (eq-eqb r r refl, eq-eqb k k refl)
+  replaced_here = rw (eq-eqb r r refl, eq-eqb k k refl)
 
   pub replaced-row : (i j : ℕ) → (i ≡ r → ⊥) → replaced m r k x i j ≡ m i j
   unfolding replaced
@@ -55,14 +55,14 @@ replaced_is t r k x l h i j g = ⊎_elim row (λ ne. other i j (λ e. ne (omega 
         ⊎_elim
         (λ f. subst (λ (i : ℕ). entry (set t (r * 9 + k) x) i j ≡ replaced (entry t) r k x i j) (sym e)
         (subst (λ (j : ℕ). entry (set t (r * 9 + k) x) r j ≡ replaced (entry t) r k x r j) (sym f)
-        (get_or-set_same t (r * 9 + k) x nan l ∙ sym (replaced-here (entry t) r k x))))
+        (get_or-set_same t (r * 9 + k) x nan l ∙ sym (replaced_here (entry t) r k x))))
         (λ ne. other i j (λ f. ne (omega arith)) ∙ sym (replaced-column (entry t) r k x i j ne))
         (same_or_not j k)
 
 -- t₁ is t with x put at row r and column k
 module _ (t t₁ : List Float) (r k : ℕ) (x : Float) (w : (i j : ℕ) → j < 9 → entry t₁ i j ≡ replaced (entry t) r k x i j) where
-  pub put-here : k < 9 → entry t₁ r k ≡ x
-  put-here h = w r k h ∙ replaced-here (entry t) r k x
+  pub put_here : k < 9 → entry t₁ r k ≡ x
+  put_here h = w r k h ∙ replaced_here (entry t) r k x
 
   pub put-row : (i j : ℕ) → (i ≡ r → ⊥) → j < 9 → entry t₁ i j ≡ entry t i j
   put-row i j ne h = w i j h ∙ replaced-row (entry t) r k x i j ne
@@ -75,33 +75,33 @@ abbrev pub mixed : ℕ → Matrix → Matrix → Matrix
 mixed k a b i j = cond (ltb j k) (a i j) (b i j)
 
 module _ (a b : Matrix) where
-  pub mixed-below : (k i j : ℕ) → j < k → mixed k a b i j ≡ a i j
-  mixed-below k i j h = rw (lt-ltb j k h)
+  pub mixed_below : (k i j : ℕ) → j < k → mixed k a b i j ≡ a i j
+  mixed_below k i j h = rw (lt-ltb j k h)
 
-  pub mixed-above : (k i j : ℕ) → k ≤ j → mixed k a b i j ≡ b i j
-  mixed-above k i j h = rw (le-ltb j k h)
+  pub mixed_above : (k i j : ℕ) → k ≤ j → mixed k a b i j ≡ b i j
+  mixed_above k i j h = rw (le-ltb j k h)
 
   module _ (n : ℕ) (t : List Float) where
     -- where a's columns before k are b's, and where k is past the end
-    pub mixed-start : (k : ℕ) → ((i j : ℕ) → j < k → a i j ≡ b i j) → Holds n t b → Holds n t (mixed k a b)
-    mixed-start k e h i j hi hj =
-        h i j hi hj ∙ ⊎_elim (λ l. sym (mixed-below k i j l ∙ e i j l)) (λ l. sym (mixed-above k i j l)) (below_or_not j k)
+    pub mixed_start : (k : ℕ) → ((i j : ℕ) → j < k → a i j ≡ b i j) → Holds n t b → Holds n t (mixed k a b)
+    mixed_start k e h i j hi hj =
+        h i j hi hj ∙ ⊎_elim (λ l. sym (mixed_below k i j l ∙ e i j l)) (λ l. sym (mixed_above k i j l)) (below_or_not j k)
 
-    pub mixed-end : (k : ℕ) → n < k → Holds n t (mixed k a b) → Holds n t a
-    mixed-end k l h i j hi hj = h i j hi hj ∙ mixed-below k i j (omega arith)
+    pub mixed_end : (k : ℕ) → n < k → Holds n t (mixed k a b) → Holds n t a
+    mixed_end k l h i j hi hj = h i j hi hj ∙ mixed_below k i j (omega arith)
 
     -- one column more: t' has a's entries there, and t's elsewhere
-    pub mixed-more : (k : ℕ) (t' : List Float) → ((i : ℕ) → i < n → entry t' i k ≡ a i k) → ((i j : ℕ) → i < n → j ≤ n → (j ≡ k → ⊥) → entry t' i j ≡ entry t i j)
+    pub mixed_more : (k : ℕ) (t' : List Float) → ((i : ℕ) → i < n → entry t' i k ≡ a i k) → ((i j : ℕ) → i < n → j ≤ n → (j ≡ k → ⊥) → entry t' i j ≡ entry t i j)
         → Holds n t (mixed k a b) → Holds n t' (mixed (k + 1) a b)
-    mixed-more k t' new old h i j hi hj = ⊎_elim here elsewhere (same_or_not j k)
+    mixed_more k t' new old h i j hi hj = ⊎_elim here elsewhere (same_or_not j k)
       where
         here : j ≡ k → entry t' i j ≡ mixed (k + 1) a b i j
-        here e = subst (λ (j : ℕ). entry t' i j ≡ mixed (k + 1) a b i j) (sym e) (new i hi ∙ sym (mixed-below (k + 1) i k (omega arith)))
+        here e = subst (λ (j : ℕ). entry t' i j ≡ mixed (k + 1) a b i j) (sym e) (new i hi ∙ sym (mixed_below (k + 1) i k (omega arith)))
 
         elsewhere : (j ≡ k → ⊥) → entry t' i j ≡ mixed (k + 1) a b i j
         elsewhere ne =
             old i j hi hj ne ∙ h i j hi hj
-            ∙ ⊎_elim (λ l. mixed-below k i j l ∙ sym (mixed-below (k + 1) i j (omega arith))) (λ l. mixed-above k i j l ∙ sym (mixed-above (k + 1) i j (omega arith))) (below_or_not j k)
+            ∙ ⊎_elim (λ l. mixed_below k i j l ∙ sym (mixed_below (k + 1) i j (omega arith))) (λ l. mixed_above k i j l ∙ sym (mixed_above (k + 1) i j (omega arith))) (below_or_not j k)
 
 -- ---- n rows of n entries, one row after the other
 pub in_row : (n r k : ℕ) → n ≤ 8 → r < n → k < n → (r * n + k < n * n) × (n * n ≤ 64)

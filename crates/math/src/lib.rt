@@ -1,5 +1,7 @@
 // Linear equations by Gaussian elimination with partial pivoting, in f64. A system of n equations, n at most 8, is worked on as [A | b] in one
 // table of 8 rows of 9 places: row r starts at 9 r, and its right-hand side stands in column n.
+#![tactic(auto)]
+
 ghost use Rattle.std.specs.Prelude.{◌≡◌, true, not, cond, ℕ, ◌+◌, ◌*◌, ◌≤◌, ◌<◌, ltb, length, get_or};
 ghost use Rattle.std.specs.Float.{nan};
 ghost use Rattle.std.specs.Float.Ieee.{lt};

@@ -1,6 +1,6 @@
 -- Up to the longest side the f32 test of document 000 gives the same yes or no as the whole numbers, and so the same match. Assumes nothing.
 use mathlib.Core.Path.{◌≡◌, refl, sym, ap, ◌∙◌}
-use mathlib.Core.Bool.{Bool, true, false, not, cond, and_false}
+use mathlib.Core.Bool.{Bool, true, false, not, cond, and-false}
 use Prim.Native.Nat.{ℕ, zero, suc, ◌+◌, ◌*◌, ◌≤◌, ◌<◌}
 use native.Mathlib.Omega.{arith}
 use lib.Dec.{ltb, lit<}
@@ -13,7 +13,7 @@ use Rattle.float.proofs.Exactly.{lt_is}
 use Rattle.lcr_core.specs.Outcome.{max_side}
 use Rattle.ratio.specs.Ratio.{passes, module_of, match_of, outer_of, float_passes}
 use Rattle.ratio.specs.declared.Match.TheVariants.{Module, Nothing}
-use Rattle.ratio.proofs.Tolerance.{outer-is, one-test, three-test}
+use Rattle.ratio.proofs.Tolerance.{outer_is, one_test, three_test}
 
 -- ---- the mean is above 0 if an outer run has a pixel
 none : HasValue f0 false 0 1
@@ -33,7 +33,7 @@ unfolding le lt eq of_int div of_bits
 mean_positive zero S = refl
 mean_positive (suc s) S =
     let P : 0 < suc s = omega arith in
-    let above : lt f0 (outer_of (suc s)) ≡ true = lt_is f0 (outer_of (suc s)) 0 1 (suc s) 4 (lit< tt) (lit< tt) none (outer-is (suc s) P S) ∙ lt-ltb (0 * 4) (suc s * 1) (omega arith) in
+    let above : lt f0 (outer_of (suc s)) ≡ true = lt_is f0 (outer_of (suc s)) 0 1 (suc s) 4 (lit< tt) (lit< tt) none (outer_is (suc s) P S) ∙ lt-ltb (0 * 4) (suc s * 1) (omega arith) in
     ap not (not_le (outer_of (suc s)) f0 above) ∙ sym (lt-ltb 0 (suc s) P)
 
 -- document 02, N5: "the float test stays as a definition proved to agree"
@@ -48,10 +48,10 @@ float_agrees a b c d e l = go (ltb 0 (a + b + d + e)) refl
     go true h =
         let s = a + b + d + e in
         let P : 0 < s = ltb-true 0 s h in
-        rw (mean_positive s S, one-test s P S a (omega arith), one-test s P S b (omega arith), one-test s P S d (omega arith), one-test s P S e (omega arith), three-test s P S c (omega arith))
+        rw (mean_positive s S, one_test s P S a (omega arith), one_test s P S b (omega arith), one_test s P S d (omega arith), one_test s P S e (omega arith), three_test s P S c (omega arith))
     go false h =
-        let f : float_passes a b c d e ≡ false = rw (mean_positive (a + b + d + e) S, h, and_false) in
-        let p : passes a b c d e ≡ false = rw (h, and_false) in
+        let f : float_passes a b c d e ≡ false = rw (mean_positive (a + b + d + e) S, h, and-false) in
+        let p : passes a b c d e ≡ false = rw (h, and-false) in
         f ∙ sym p
 
 -- so `matches_finder` answers as document 000's function of that name

@@ -84,41 +84,41 @@ module _ (s : ℕ) (P : 0 < s) (S : s ≤ 32768) where
   abbrev tol : Float
   tol = tolerance_of outer
 
-  pub outer-is : HasValue outer false s 4
-  outer-is =
+  pub outer_is : HasValue outer false s 4
+  outer_is =
       subst (λ (x : Float). HasValue x false s 4)
       (ap (λ (n : ℕ). round binary32 false n 4) (sym (mul-one s)) ∙ sym (div_is binary32 (whole32 s) f4 false false s 1 4 1 (lit< tt) (lit< tt) (lit< tt) (of_int_value binary32 s (le_trans S (lit≤ tt))) four))
       (small_exact false s 2 (lt_of_le_of_lt S (lit< tt)) (lit≤ tt))
 
-  outer3-is : HasValue (times32 f3 outer) false (3 * s) 4
-  outer3-is =
-      subst (λ (x : Float). HasValue x false (3 * s) 4) (sym (mul_is binary32 f3 outer false false 3 1 s 4 (lit< tt) (lit< tt) three outer-is))
+  outer3_is : HasValue (times32 f3 outer) false (3 * s) 4
+  outer3_is =
+      subst (λ (x : Float). HasValue x false (3 * s) 4) (sym (mul_is binary32 f3 outer false false 3 1 s 4 (lit< tt) (lit< tt) three outer_is))
       (small_exact false (3 * s) 2 (few s S) (lit≤ tt))
     where
       few : (s : ℕ) → s ≤ 32768 → 3 * s < 2 ^ 24
       few s S = omega arith
 
-  tol-is : Between tol (704 * s / 5) (704 * s / 5 + 1)
-  tol-is =
-      subst (λ (t : Float). Between t (704 * s / 5) (704 * s / 5 + 1)) (sym (mul_is binary32 outer f0_55 false false s 4 9227469 16777216 (lit< tt) (lit< tt) outer-is hundredths))
+  tol_is : Between tol (704 * s / 5) (704 * s / 5 + 1)
+  tol_is =
+      subst (λ (t : Float). Between t (704 * s / 5) (704 * s / 5 + 1)) (sym (mul_is binary32 outer f0_55 false false s 4 9227469 16777216 (lit< tt) (lit< tt) outer_is hundredths))
       (rounded (s * 9227469) 67108864 (704 * s / 5) (704 * s / 5 + 1) (lit< tt) (omega arith) (omega arith) (omega arith) (omega arith) (omega arith) (omega arith))
 
-  tol3-is : Between (times32 f3 tol) (3 * (704 * s / 5)) (3 * (704 * s / 5 + 1))
-  tol3-is =
-      let b = tol-is in
+  tol3_is : Between (times32 f3 tol) (3 * (704 * s / 5)) (3 * (704 * s / 5 + 1))
+  tol3_is =
+      let b = tol_is in
       let n = num tol in
       let d = den tol in
       subst (λ (t : Float). Between t (3 * (704 * s / 5)) (3 * (704 * s / 5 + 1))) (sym (mul_is binary32 f3 tol false false 3 1 n d (lit< tt) (den_pos tol) three (own_value tol b.0)))
-      (rounded (3 * n) (1 * d) (3 * (704 * s / 5)) (3 * (704 * s / 5 + 1)) (one d (den_pos tol)) (omega arith) (omega arith) (omega arith) (omega arith) (thrice-l (704 * s / 5) n d b.1) (thrice-r (704 * s / 5 + 1) n d b.2))
+      (rounded (3 * n) (1 * d) (3 * (704 * s / 5)) (3 * (704 * s / 5 + 1)) (one d (den_pos tol)) (omega arith) (omega arith) (omega arith) (omega arith) (thrice_l (704 * s / 5) n d b.1) (thrice_r (704 * s / 5 + 1) n d b.2))
     where
       one : (d : ℕ) → 0 < d → 0 < 1 * d
       one d h = omega arith
 
-      thrice-l : (k n d : ℕ) → k * d ≤ n * 1024 → 3 * k * (1 * d) ≤ 3 * n * 1024
-      thrice-l k n d h = omega arith
+      thrice_l : (k n d : ℕ) → k * d ≤ n * 1024 → 3 * k * (1 * d) ≤ 3 * n * 1024
+      thrice_l k n d h = omega arith
 
-      thrice-r : (k n d : ℕ) → n * 1024 ≤ k * d → 3 * n * 1024 ≤ 3 * k * (1 * d)
-      thrice-r k n d h = omega arith
+      thrice_r : (k n d : ℕ) → n * 1024 ≤ k * d → 3 * n * 1024 ≤ 3 * k * (1 * d)
+      thrice_r k n d h = omega arith
 
   module _ (r : ℕ) (R : r ≤ 32768) where
     abbrev gap : Float → Float
@@ -137,43 +137,43 @@ module _ (s : ℕ) (P : 0 < s) (S : s ≤ 32768) where
         few : (r q : ℕ) → r ≤ 32768 → q ≤ 98304 → dist (4 * r) q < 2 ^ 24
         few r q R Q = omega arith
 
-    pub one-test : not (beyond r outer tol) ≡ near_one s r
-    one-test = ap not (go (ltb (11 * s) (20 * D)) (ltb→lt (11 * s) (20 * D)) (nltb→le (11 * s) (20 * D))) ∙ not_ltb (11 * s) (20 * D)
+    pub one_test : not (beyond r outer tol) ≡ near_one s r
+    one_test = ap not (go (ltb (11 * s) (20 * D)) (ltb→lt (11 * s) (20 * D)) (nltb→le (11 * s) (20 * D))) ∙ not_ltb (11 * s) (20 * D)
       where
         D : ℕ
         D = dist (4 * r) s
 
         v : HasValue (gap outer) false D 4
-        v = gap_is outer s (le_trans S (lit≤ tt)) outer-is
+        v = gap_is outer s (le_trans S (lit≤ tt)) outer_is
 
         go : (t : Bool) → (T t → 11 * s < 20 * D) → (T (not t) → 20 * D ≤ 11 * s) → lt tol (gap outer) ≡ t
-        go true l g = far tol (gap outer) (704 * s / 5) (704 * s / 5 + 1) D tol-is v (more s D (l tt))
+        go true l g = far tol (gap outer) (704 * s / 5) (704 * s / 5 + 1) D tol_is v (more s D (l tt))
           where
             more : (s D : ℕ) → 11 * s < 20 * D → 704 * s / 5 + 1 < 256 * D
             more s D h = omega arith
-        go false l g = near tol (gap outer) (704 * s / 5) (704 * s / 5 + 1) D tol-is v (less s D (g tt))
+        go false l g = near tol (gap outer) (704 * s / 5) (704 * s / 5 + 1) D tol_is v (less s D (g tt))
           where
             less : (s D : ℕ) → 20 * D ≤ 11 * s → 256 * D ≤ 704 * s / 5
             less s D h = omega arith
 
-    pub three-test : not (beyond r (times32 f3 outer) (times32 f3 tol)) ≡ near_three s r
-    three-test = ap not (go (ltb (33 * s) (20 * D)) (ltb→lt (33 * s) (20 * D)) (nltb→le (33 * s) (20 * D))) ∙ not_ltb (33 * s) (20 * D)
+    pub three_test : not (beyond r (times32 f3 outer) (times32 f3 tol)) ≡ near_three s r
+    three_test = ap not (go (ltb (33 * s) (20 * D)) (ltb→lt (33 * s) (20 * D)) (nltb→le (33 * s) (20 * D))) ∙ not_ltb (33 * s) (20 * D)
       where
         D : ℕ
         D = dist (4 * r) (3 * s)
 
         v : HasValue (gap (times32 f3 outer)) false D 4
-        v = gap_is (times32 f3 outer) (3 * s) (wide s S) outer3-is
+        v = gap_is (times32 f3 outer) (3 * s) (wide s S) outer3_is
           where
             wide : (s : ℕ) → s ≤ 32768 → 3 * s ≤ 98304
             wide s S = omega arith
 
         go : (t : Bool) → (T t → 33 * s < 20 * D) → (T (not t) → 20 * D ≤ 33 * s) → lt (times32 f3 tol) (gap (times32 f3 outer)) ≡ t
-        go true l g = far (times32 f3 tol) (gap (times32 f3 outer)) (3 * (704 * s / 5)) (3 * (704 * s / 5 + 1)) D tol3-is v (more s D (l tt))
+        go true l g = far (times32 f3 tol) (gap (times32 f3 outer)) (3 * (704 * s / 5)) (3 * (704 * s / 5 + 1)) D tol3_is v (more s D (l tt))
           where
             more : (s D : ℕ) → 33 * s < 20 * D → 3 * (704 * s / 5 + 1) < 256 * D
             more s D h = omega arith
-        go false l g = near (times32 f3 tol) (gap (times32 f3 outer)) (3 * (704 * s / 5)) (3 * (704 * s / 5 + 1)) D tol3-is v (less s D (g tt))
+        go false l g = near (times32 f3 tol) (gap (times32 f3 outer)) (3 * (704 * s / 5)) (3 * (704 * s / 5 + 1)) D tol3_is v (less s D (g tt))
           where
             -- at equality s is a multiple of 20, and 704 * s / 5 is exact
             less : (s x : ℕ) → 20 * x ≤ 33 * s → 256 * x ≤ 3 * (704 * s / 5)

@@ -1,9 +1,11 @@
 // Five runs against 1:1:3:1:1, decided in whole numbers; the module of those that pass.
+#![tactic(auto)]
+
 ghost use Rattle.std.specs.Prelude.{◌≡◌, ◌*◌, ◌≤◌};
 ghost use Rattle.ratio.specs.Ratio.{near_one, near_three, passes, match_of};
 
 // The module of five runs that pass.
-#[derive(Drop)]
+#[derive(Clone, Copy)]
 pub enum Match {
     Module(f32),
     Nothing,
@@ -28,9 +30,8 @@ fn near_three(c: u16, s: u32) -> bool
 }
 
 // Whether the runs a, b, c, d and e pass. Most fail by the centre run, so it is tried first; where it is near three and the total at least 7, s is not 0.
-// Exported, so that its machine code can be looked at by itself (`check`).
-#[unsafe(no_mangle)]
-pub extern "C" fn passes_finder(a: u16, b: u16, c: u16, d: u16, e: u16) -> bool
+// The crate ratio_c exports it, so that its machine code can be looked at by itself (`check`).
+pub fn passes_finder(a: u16, b: u16, c: u16, d: u16, e: u16) -> bool
     ensures { result ≡ passes a b c d e }
 {
     let s = a as u32 + b as u32 + d as u32 + e as u32;

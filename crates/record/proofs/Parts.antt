@@ -1,12 +1,12 @@
 -- Parts of records as they are read, and of answers as they are written, one after the other. Assumes nothing.
-use Rattle.std.proofs.Common.{◌≡◌, ℕ, zero, suc, ◌+◌, ◌-◌, ◌*◌, ◌/◌, ◌%◌, ◌<◌, ◌≤◌, min, false, eqb, List, [], ◌∷◌, ◌++◌, length, get_or, take, drop, set, replicate, sym, refl, ap, ◌∙◌, ap₂, append-nil, add-zero, add-one, arith, length-append, length-set, length-take-le, take_all}
+use Rattle.std.proofs.Common.{◌≡◌, ℕ, suc, ◌+◌, ◌-◌, ◌*◌, ◌/◌, ◌%◌, ◌<◌, ◌≤◌, min, false, eqb, List, [], ◌∷◌, ◌++◌, length, get_or, take, drop, set, replicate, sym, refl, ap, ◌∙◌, ap₂, append-nil, add-zero, add-one, arith, length-append, length-set, length-take-le, take_all}
 use lib.Seq.{take-length, drop-length}
 use lib.Ieee.{Float, binary32, to_bits}
 use Rattle.lists.specs.Lists.{tabulate, filled, flat_map}
-use Rattle.lists.proofs.Tabulate.{filled_none, filled-step, filled-whole, length-tabulate}
-use Rattle.lists.proofs.Folds.{flatMap-append}
+use Rattle.lists.proofs.Tabulate.{filled_none, filled_step, filled_whole, length-tabulate}
+use Rattle.lists.proofs.Folds.{flat_map-append}
 use Rattle.little_endian.specs.Bytes.{bytes_le, put}
-use Rattle.little_endian.proofs.Pieces.{put_then, length-flat}
+use Rattle.little_endian.proofs.Pieces.{put_then, length_flat}
 use Rattle.little_endian.proofs.Round.{length_bytes}
 use Rattle.transform.specs.declared.Point.{Point}
 use Rattle.transform.specs.declared.Transform.{Transform}
@@ -16,7 +16,6 @@ use Rattle.finders.specs.Answer.{held_in}
 use Rattle.candidates.specs.declared.Detection.{Detection}
 use Rattle.firmware.specs.Firmware.{single_bytes, double_bytes, finder_bytes, transform_bytes}
 use Rattle.firmware.proofs.Bytes.{length_double, length_finder, length_transform}
-use Rattle.record.specs.declared.Line.{Line}
 use Rattle.record.specs.Record.{double_at, doubles_at, finder_at, finders_at, point_bytes, lens_bytes, finders_bytes, grade_bytes, digit_of, byte_digits, digits_line, most_bytes, answer_line, line_of}
 
 -- ---- numbers
@@ -57,12 +56,12 @@ pub table_more : (n : ℕ) (p : List ℕ) (old a : List Float) (i : ℕ) (v : Fl
 table_more n p old a i v h t e =
     let m : i < length old = omega arith in
     let z : 8 * i ≡ 0 + 8 * i = omega arith in
-    (omega arith, length-set a i v ∙ t.1, t.2, filled-step i (λ k. double_at p (0 + 8 * k)) old a v m t.3 (e ∙ ap (double_at p) z))
+    (omega arith, length-set a i v ∙ t.1, t.2, filled_step i (λ k. double_at p (0 + 8 * k)) old a v m t.3 (e ∙ ap (double_at p) z))
 
 pub table_all : (n : ℕ) (p : List ℕ) (old a : List Float) (i : ℕ) → n ≤ i → Table n p old a i → a ≡ doubles_at n p 0
 table_all n p old a i h t =
     let m : i ≡ length old = omega arith in
-    filled-whole i (λ k. double_at p (0 + 8 * k)) old a m t.3 ∙ ap (λ z. doubles_at z p 0) t.2
+    filled_whole i (λ k. double_at p (0 + 8 * k)) old a m t.3 ∙ ap (λ z. doubles_at z p 0) t.2
 
 -- ---- finders
 
@@ -74,7 +73,7 @@ pub found_all : (p : List ℕ) (at count : ℕ) (old : List Finder) (t : Finders
 unfolding finders_at
 found_all p at count old t i h f =
     let m : i ≡ length old = omega arith in
-    let e : t.table ≡ tabulate 128 (λ k. finder_at p (at + 16 * k)) = filled-whole i (λ k. finder_at p (at + 16 * k)) old t.table m f.3 ∙ ap (λ z. tabulate z (λ k. finder_at p (at + 16 * k))) f.2 in
+    let e : t.table ≡ tabulate 128 (λ k. finder_at p (at + 16 * k)) = filled_whole i (λ k. finder_at p (at + 16 * k)) old t.table m f.3 ∙ ap (λ z. tabulate z (λ k. finder_at p (at + 16 * k))) f.2 in
     ap₂ (λ (n : ℕ) (l : List Finder). record { count = n; table = l }) f.1 e
 
 -- the finders of a table are written, up to its count or its end
@@ -89,7 +88,7 @@ finders_are t i at l e = ap (λ z. put (flat_map finder_bytes z) (at + 1) (set l
 pub finders_end : (t : Finders) (i at : ℕ) → i ≤ length t.table → take i t.table ≡ held_in t → at + 1 + 16 * i ≡ at + length (finders_bytes t)
 unfolding bytes_le
 finders_end t i at h e =
-    let n : length (flat_map finder_bytes (held_in t)) ≡ 16 * i = ap (λ z. length (flat_map finder_bytes z)) (sym e) ∙ length-flat finder_bytes 16 length_finder (take i t.table) ∙ ap (λ z. 16 * z) (length-take-le i t.table h) in
+    let n : length (flat_map finder_bytes (held_in t)) ≡ 16 * i = ap (λ z. length (flat_map finder_bytes z)) (sym e) ∙ length_flat finder_bytes 16 length_finder (take i t.table) ∙ ap (λ z. 16 * z) (length-take-le i t.table h) in
     omega (arith, n)
 
 -- ---- behind the first byte
@@ -122,12 +121,12 @@ unfolding byte_digits
 length_digits b = refl
 
 length_spelled : (f : ℕ → ℕ) (i : ℕ) → length (flat_map byte_digits (tabulate i f)) ≡ 2 * i
-length_spelled f i = length-flat byte_digits 2 length_digits (tabulate i f) ∙ ap (λ z. 2 * z) (length-tabulate i f)
+length_spelled f i = length_flat byte_digits 2 length_digits (tabulate i f) ∙ ap (λ z. 2 * z) (length-tabulate i f)
 
 -- one byte more
 spelled_next : (f : ℕ → ℕ) (i : ℕ) → flat_map byte_digits (tabulate (i + 1) f) ≡ flat_map byte_digits (tabulate i f) ++ byte_digits (f i)
 unfolding tabulate flat_map
-spelled_next f i = rw (add-one i) (flatMap-append byte_digits (tabulate i f) (f i ∷ []) ∙ ap (λ z. flat_map byte_digits (tabulate i f) ++ z) (append-nil (byte_digits (f i))))
+spelled_next f i = rw (add-one i) (flat_map-append byte_digits (tabulate i f) (f i ∷ []) ∙ ap (λ z. flat_map byte_digits (tabulate i f) ++ z) (append-nil (byte_digits (f i))))
 
 pub spelled_more : (f : ℕ → ℕ) (l text : List ℕ) (i high low : ℕ) → text ≡ put (flat_map byte_digits (tabulate i f)) 0 l
     → high ≡ digit_of (f i / 16 % 16) → low ≡ digit_of (f i % 16)

@@ -5,7 +5,7 @@ use lib.Seq.{drop-length}
 use Rattle.lists.specs.Lists.{flat_map, folded}
 use Rattle.lists.proofs.Tabulate.{length-tabulate}
 use Rattle.little_endian.specs.Bytes.{bytes_le, put}
-use Rattle.little_endian.proofs.Pieces.{put_then, length-flat}
+use Rattle.little_endian.proofs.Pieces.{put_then}
 use Rattle.little_endian.proofs.Round.{length_bytes}
 use Rattle.record.specs.Record.{longest, length_at, lendable_at, lent_bytes, hash_step, hash_of, slice_bytes}
 

@@ -1,5 +1,7 @@
 // Records and answers for the replay programs (docs/REPLAY.md): a record is read, numbers stand at places, an answer is a line of digits.
 // A byte beyond a slice reads as 0 and is not written.
+#![tactic(auto)]
+
 ghost use Rattle.std.specs.Prelude.{◌≡◌, ◌+◌, ◌*◌, ◌%◌, ◌≤◌, length};
 ghost use Rattle.little_endian.specs.Bytes.{put};
 ghost use Rattle.record.specs.Record.{fixed_part, asked_of, no_call, ReadInto, digit_of, digits_line, answer_line, line_of};

@@ -1,4 +1,6 @@
 // Runs calls from standard input and prints their answers, a line each (docs/REPLAY.md): records 1 to 8, 32 to 34, 36, 37 and 48 to 59.
+#![tactic(auto)]
+
 use record::slices;
 
 mod core_calls;

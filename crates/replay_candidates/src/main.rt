@@ -1,4 +1,6 @@
 // Runs calls from standard input and prints their answers, a line each (docs/REPLAY.md): records 64 to 67 and 80 to 82.
+#![tactic(auto)]
+
 use record::slices;
 
 mod alignment_calls;

@@ -1,4 +1,6 @@
 // Runs calls from standard input and prints their answers, a line each (docs/REPLAY.md): record 96, the whole chain.
+#![tactic(auto)]
+
 use record::{slices, values};
 
 fn chain(p: &[u8], out: &mut [u8]) -> usize {

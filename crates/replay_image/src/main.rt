@@ -1,4 +1,6 @@
 // Runs calls from standard input and prints their answers, a line each (docs/REPLAY.md): records 16 to 18.
+#![tactic(auto)]
+
 use record::slices;
 
 fn gray_buffer(p: &[u8], out: &mut [u8]) -> usize {

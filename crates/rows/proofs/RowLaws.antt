@@ -13,7 +13,7 @@ use Rattle.transform.specs.declared.Point.{Point}
 use Rattle.geometry.specs.declared.Marker.{Marker}
 use Rattle.rows.specs.Rows.{starts_at, row_runs, confirmed, seen_of, nearer_of, visit}
 use Rattle.rows.specs.declared.search.Runs.{Runs}
-use Rattle.rows.proofs.Walks.{At, some-dark, walk-next, none-starts, fold_skip}
+use Rattle.rows.proofs.Walks.{At, some_dark, walk_next, none_starts, fold_skip}
 
 module _ (bits : List ℕ) (w h first end : ℕ) (p : Point) (m : Float) (y : ℕ) where
   abbrev step : Marker → ℕ → Marker
@@ -33,31 +33,31 @@ module _ (bits : List ℕ) (w h first end : ℕ) (p : Point) (m : Float) (y : �
 
   -- the first dark run is over before any can start: d dark pixels from the first on, then l light ones
   module _ (d l : ℕ) (n : first < end) (e : d ≡ run true f first (end - first)) (q : l ≡ run false f (first + d) (end - (first + d))) (s : d ≤ end - first) (t : l ≤ end - (first + d)) where
-    pub row-begins : At f first end (first + d + l) l
-    row-begins = walk-next f first end first d l (omega arith) n (inl refl) e q s t
+    pub row_begins : At f first end (first + d + l) l
+    row_begins = walk_next f first end first d l (omega arith) n (inl refl) e q s t
 
-    pub row-skips : (b : Marker) → folded step b (range (first + 1) end) ≡ folded step b (range (first + d + l) end)
-    row-skips b = skipped b (first + 1) (first + d + l) (omega (arith, row-begins.beyond)) row-begins.within (λ i o k. none-starts f first end first d l (omega arith) n (inl refl) e q s t i (omega arith) k)
+    pub row_skips : (b : Marker) → folded step b (range (first + 1) end) ≡ folded step b (range (first + d + l) end)
+    row_skips b = skipped b (first + 1) (first + d + l) (omega (arith, row_begins.beyond)) row_begins.within (λ i o k. none_starts f first end first d l (omega arith) n (inl refl) e q s t i (omega arith) k)
 
   -- a turn: the runs r of the dark run that starts at x
   module _ (b whole : Marker) (x light : ℕ) (a : At f first end x light) (n : x < end) (e : whole ≡ folded step b (range x end)) (r : Runs) (q : r ≡ row_runs f first end x)
       (s : r.dark ≤ end - x) (t : r.after ≤ end - (x + r.dark)) where
-    dark-is : r.dark ≡ run true f x (end - x)
+    dark_is : r.dark ≡ run true f x (end - x)
     unfolding row_runs
-    dark-is = ap (λ (z : Runs). z.dark) q
+    dark_is = ap (λ (z : Runs). z.dark) q
 
     after_is : r.after ≡ run false f (x + r.dark) (end - (x + r.dark))
     unfolding row_runs
-    after_is = ap (λ (z : Runs). z.after) q ∙ ap (λ (k : ℕ). run false f (x + k) (end - (x + k))) (sym dark-is)
+    after_is = ap (λ (z : Runs). z.after) q ∙ ap (λ (k : ℕ). run false f (x + k) (end - (x + k))) (sym dark_is)
 
     inside : first ≤ x
     inside = omega (arith, a.beyond)
 
     pub goes_on : 1 ≤ r.dark
-    goes_on = some-dark f first end x r.dark r.after inside n (inr (a.starts n).0) dark-is after_is s t (a.starts n).0
+    goes_on = some_dark f first end x r.dark r.after inside n (inr (a.starts n).0) dark_is after_is s t (a.starts n).0
 
     pub walks : At f first end (x + r.dark + r.after) r.after
-    walks = walk-next f first end x r.dark r.after inside n (inr (a.starts n).0) dark-is after_is s t
+    walks = walk_next f first end x r.dark r.after inside n (inr (a.starts n).0) dark_is after_is s t
 
     seen : confirmed bits w h m y r ≡ seen_of bits w h first end m y x
     unfolding seen_of starts_at
@@ -67,4 +67,4 @@ module _ (bits : List ℕ) (w h first end : ℕ) (p : Point) (m : Float) (y : �
     folds g c o k =
         fold_more step whole b c x end n e (k ∙ ap (nearer_of p b) (o ∙ seen))
         ∙ skipped c (x + 1) (x + r.dark + r.after) (omega (arith, goes_on)) walks.within
-        (λ i z j. none-starts f first end x r.dark r.after inside n (inr (a.starts n).0) dark-is after_is s t i (omega arith) j)
+        (λ i z j. none_starts f first end x r.dark r.after inside n (inr (a.starts n).0) dark_is after_is s t i (omega arith) j)

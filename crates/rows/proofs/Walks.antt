@@ -93,12 +93,12 @@ module _ (f : ℕ → Bool) (first end i d l : ℕ) (h : first ≤ i) (n : i < e
   dark_at_lem : (j : ℕ) → j < d → f (i + j) ≡ true
   dark_at_lem j m = run_colour true f i (end - i) j (omega arith)
 
-  light-at : (j : ℕ) → j < l → f (i + d + j) ≡ false
-  light-at j m = run_colour false f (i + d) (end - (i + d)) j (omega arith)
+  light_at : (j : ℕ) → j < l → f (i + d + j) ≡ false
+  light_at j m = run_colour false f (i + d) (end - (i + d)) j (omega arith)
 
   -- a dark run that does not reach the end is followed by a light pixel
-  some-light : i + d < end → 1 ≤ l
-  some-light m = go (ltb 0 l) refl
+  some_light : i + d < end → 1 ≤ l
+  some_light m = go (ltb 0 l) refl
     where
       light : f (i + d) ≡ false
       light = rw p (run_ends true f i (end - i) (omega arith))
@@ -111,8 +111,8 @@ module _ (f : ℕ → Bool) (first end i d l : ℕ) (h : first ≤ i) (n : i < e
           absurd (true≢false (sym (rw (z, add-zero) at r) ∙ light))
 
   -- a dark run that begins with a dark pixel has some
-  pub some-dark : f i ≡ true → 1 ≤ d
-  some-dark r = go (ltb 0 d) refl
+  pub some_dark : f i ≡ true → 1 ≤ d
+  some_dark r = go (ltb 0 d) refl
     where
       go : (v : Bool) → ltb 0 d ≡ v → 1 ≤ d
       go true e = ltb-true 0 d e
@@ -126,27 +126,27 @@ module _ (f : ℕ → Bool) (first end i d l : ℕ) (h : first ≤ i) (n : i < e
     where
       go : (m : ℕ) → d ≡ m → ((i ≡ first) ⊎ (f i ≡ true)) → Edge f first (i + d)
       go zero e (inl r) = inl (omega arith)
-      go zero e (inr r) = absurd (omega (arith, some-dark r))
+      go zero e (inr r) = absurd (omega (arith, some_dark r))
       go (suc m) e r = inr (i + m, omega arith, dark_at_lem m (omega arith))
 
-  pub walk-next : At f first end (i + d + l) l
-  walk-next = record { within = omega arith; beyond = past (ltb (i + d) end) refl; starts = begins }
+  pub walk_next : At f first end (i + d + l) l
+  walk_next = record { within = omega arith; beyond = past (ltb (i + d) end) refl; starts = begins }
     where
       past : (v : Bool) → ltb (i + d) end ≡ v → first < i + d + l
-      past true e = omega (arith, some-light (ltb-true (i + d) end e))
+      past true e = omega (arith, some_light (ltb-true (i + d) end e))
       past false e = omega (arith, ltb-false (i + d) end e)
 
       begins : i + d + l < end → (f (i + d + l) ≡ true) × (f (i + d + l - 1) ≡ false) × (l ≡ run_back false f (i + d + l) (i + d + l - first))
       begins m =
-          let o = some-light (omega arith) in
+          let o = some_light (omega arith) in
           let z : i + d + l - 1 ≡ i + d + (l - 1) = omega arith in
           let r = run_ends false f (i + d) (end - (i + d)) (omega arith) in
-          (rw q r, rw z (light-at (l - 1) (omega arith)), sym (back_run f first (i + d) (omega arith) edge l light-at))
+          (rw q r, rw z (light_at (l - 1) (omega arith)), sym (back_run f first (i + d) (omega arith) edge l light_at))
 
   -- no dark run starts in between
-  pub none-starts : (k : ℕ) → i < k → k < i + d + l → starts_at f k ≡ false
+  pub none_starts : (k : ℕ) → i < k → k < i + d + l → starts_at f k ≡ false
   unfolding starts_at
-  none-starts k m o = go (ltb k (i + d)) refl
+  none_starts k m o = go (ltb k (i + d)) refl
     where
       go : (v : Bool) → ltb k (i + d) ≡ v → f k && not (f (k - 1)) ≡ false
       go true e =
@@ -154,7 +154,7 @@ module _ (f : ℕ → Bool) (first end i d l : ℕ) (h : first ≤ i) (n : i < e
           rw (z, dark_at_lem (k - 1 - i) (omega (arith, ltb-true k (i + d) e))) (both_false (f k))
       go false e =
           let z : k ≡ i + d + (k - (i + d)) = omega (arith, ltb-false k (i + d) e) in
-          ap (λ (b : Bool). b && not (f (k - 1))) (ap f z ∙ light-at (k - (i + d)) (omega (arith, ltb-false k (i + d) e)))
+          ap (λ (b : Bool). b && not (f (k - 1))) (ap f z ∙ light_at (k - (i + d)) (omega (arith, ltb-false k (i + d) e)))
 
 -- ---- a fold over numbers of which some leave the state as it is
 pub fold_skip : {S : Type 0} (g : S → ℕ → S) (b : S) (k n e : ℕ) → k + n ≤ e → ((i : ℕ) → k ≤ i → i < k + n → g b i ≡ b) → folded g b (range k e) ≡ folded g b (range (k + n) e)

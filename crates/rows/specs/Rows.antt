@@ -123,12 +123,12 @@ module _ (bits : List ℕ) (w h first end : ℕ) (p : Point) (m : Float) where
   visit y best x = nearer_of p best (seen_of bits w h first end m y x)
 
   -- along row y, the columns strictly between first and end
-  unfoldable pub rowNearest : Marker → ℕ → Marker
-  rowNearest best y = folded (visit y) best (range (first + 1) end)
+  unfoldable pub row_nearest : Marker → ℕ → Marker
+  row_nearest best y = folded (visit y) best (range (first + 1) end)
 
 -- row by row
 unfoldable pub nearest_of : List ℕ → ℕ → ℕ → Window → Point → Float → Marker
-nearest_of bits w h v p m = folded (rowNearest bits w h v.first v.end p m) Missing (range v.top v.bottom)
+nearest_of bits w h v p m = folded (row_nearest bits w h v.first v.end p m) Missing (range v.top v.bottom)
 
 -- a marker, unless a number other than 0 refuses
 abbrev pub answer : ℕ → Marker → Located

@@ -1,4 +1,6 @@
 // The search for the alignment marker along rows: light, dark and light runs of a module each, confirmed down their column.
+#![tactic(auto)]
+
 ghost use Rattle.std.specs.Prelude.{◌≡◌};
 ghost use Rattle.rows.specs.Rows.{find_of};
 
@@ -12,7 +14,7 @@ mod search;
 mod window;
 
 // The marker, or none; or a refusal, and then none.
-#[derive(Drop)]
+#[derive(Clone, Copy)]
 pub struct Located {
     pub refusal: u8,
     pub marker: Marker,

@@ -1,7 +1,7 @@
 // The runs of a row and of a column, and the nearest marker.
 ghost use Rattle.std.specs.Prelude.{◌≡◌, false, ◌+◌, ◌-◌, ◌*◌, ◌≤◌, ◌<◌};
 ghost use Rattle.binary.specs.Line.{pixel, run_back};
-ghost use Rattle.rows.specs.Rows.{near_one, matches_of, middle_of, column_runs, limit_of, confirm_of, confirmed, row_runs, nearer_of, rowNearest, nearest_of};
+ghost use Rattle.rows.specs.Rows.{near_one, matches_of, middle_of, column_runs, limit_of, confirm_of, confirmed, row_runs, nearer_of, row_nearest, nearest_of};
 
 use crate::window::{Window, least};
 use binary::dark;
@@ -11,7 +11,7 @@ use geometry::Marker;
 use transform::{Point, distance2};
 
 // A light, a dark and a light run, and the pixel at which the dark one starts.
-#[derive(Drop)]
+#[derive(Clone, Copy)]
 pub struct Runs {
     pub before: u16,
     pub dark: u16,
@@ -149,7 +149,7 @@ fn search_row(
     y: u16,
 ) -> Marker
     requires { (width ≤ 4096) × (height ≤ 4096) × (y < height) }
-    ensures { result ≡ rowNearest bits.now width height first end p «module» best y }
+    ensures { result ≡ row_nearest bits.now width height first end p «module» best y }
 {
     if end <= first {
         return best;

@@ -7,7 +7,7 @@ use float::{max32, to_u32};
 use transform::Point;
 
 // Columns from first up to end, rows from top up to bottom.
-#[derive(Drop)]
+#[derive(Clone, Copy)]
 pub struct Window {
     pub first: u16,
     pub end: u16,

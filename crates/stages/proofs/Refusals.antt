@@ -28,9 +28,9 @@ four z l p r = cond z 1 (cond l 2 (cond p 4 (cond r 5 0)))
 
 module _ (len w h s f gray bits denoised : ℕ) (work : List ℕ) where
   -- what gray conversion refuses is refused with the same number
-  pub gray-refused : (gray_refusal len w h s f gray ≡ 0 → ⊥) → gray_refusal len w h s f gray ≡ stages_refusal len w h s f gray bits denoised work
+  pub gray_refused : (gray_refusal len w h s f gray ≡ 0 → ⊥) → gray_refusal len w h s f gray ≡ stages_refusal len w h s f gray bits denoised work
   unfolding gray_refusal stages_refusal short_room
-  gray-refused =
+  gray_refused =
       go (zero_side w h) (large_side w h) (unknown_format f) (short_picture len w h s f) (ltb gray (w * h)) (ltb bits (bytes_of (w * h))) (ltb denoised (bytes_of (w * h))) (under (blocks_in w h) work)
     where
       go : (z l u p g b d k : Bool) → (five z l u p g ≡ 0 → ⊥) → five z l u p g ≡ five z l u p (g || b || d || k)
@@ -42,10 +42,10 @@ module _ (len w h s f gray bits denoised : ℕ) (work : List ℕ) where
       go false false false false false b d k n = absurd (n refl)
 
   -- then what black and white conversion refuses
-  pub bits-refused : gray_refusal len w h s f gray ≡ 0 → (binarize_refusal gray w h bits work ≡ 0 → ⊥)
+  pub bits_refused : gray_refusal len w h s f gray ≡ 0 → (binarize_refusal gray w h bits work ≡ 0 → ⊥)
       → binarize_refusal gray w h bits work ≡ stages_refusal len w h s f gray bits denoised work
   unfolding gray_refusal binarize_refusal stages_refusal short_room
-  bits-refused =
+  bits_refused =
       go (zero_side w h) (large_side w h) (unknown_format f) (short_picture len w h s f) (ltb gray (w * h)) (ltb bits (bytes_of (w * h))) (ltb denoised (bytes_of (w * h))) (under (blocks_in w h) work)
     where
       go : (z l u p g b d k : Bool) → five z l u p g ≡ 0 → (four z l g (b || k) ≡ 0 → ⊥) → four z l g (b || k) ≡ five z l u p (g || b || d || k)
@@ -60,10 +60,10 @@ module _ (len w h s f gray bits denoised : ℕ) (work : List ℕ) where
       go false false false false false false d false e n = absurd (n refl)
 
   -- otherwise denoising decides
-  pub denoised-decides : gray_refusal len w h s f gray ≡ 0 → binarize_refusal gray w h bits work ≡ 0
+  pub denoised_decides : gray_refusal len w h s f gray ≡ 0 → binarize_refusal gray w h bits work ≡ 0
       → denoised_refusal bits w h denoised ≡ stages_refusal len w h s f gray bits denoised work
   unfolding gray_refusal binarize_refusal denoised_refusal short_bits stages_refusal short_room
-  denoised-decides =
+  denoised_decides =
       go (zero_side w h) (large_side w h) (unknown_format f) (short_picture len w h s f) (ltb gray (w * h)) (ltb bits (bytes_of (w * h))) (ltb denoised (bytes_of (w * h))) (under (blocks_in w h) work)
     where
       go : (z l u p g b d k : Bool) → five z l u p g ≡ 0 → four z l g (b || k) ≡ 0 → four z l b d ≡ five z l u p (g || b || d || k)
@@ -100,20 +100,20 @@ module _ (len w h s f gray bits denoised : ℕ) (work : List ℕ) where
 -- what the stages leave where nothing is refused
 module _ (p gray bits denoised : List ℕ) (w h s f : ℕ) (work : List ℕ) (zero : stages_refusal (length p) w h s f (length gray) (length bits) (length denoised) work ≡ 0) where
   -- the gray picture is written, and black and white conversion does not refuse it
-  pub gray-done : (new : List ℕ) → new ≡ gray_written p w h s f gray
+  pub gray_done : (new : List ℕ) → new ≡ gray_written p w h s f gray
       → (new ≡ filled (w * h) (gray_at p w s f) gray) × (binarize_refusal (length new) w h (length bits) work ≡ 0)
   unfolding gray_written
-  gray-done new e =
+  gray_done new e =
       let t = passes (length p) w h s f (length gray) (length bits) (length denoised) work zero in
       let k = e ∙ sym (unless_done _ _ _ t.0) in
       let l : length new ≡ length gray = ap length k ∙ length-filled (w * h) (gray_at p w s f) gray t.3 in
       (k, rw l t.1)
 
   -- the bits are written, and denoised
-  pub denoised-done : (new out : List ℕ) (b : ℕ → ℕ) → new ≡ filled (bytes_of (w * h)) b bits → out ≡ denoised_written new w h denoised
+  pub denoised_done : (new out : List ℕ) (b : ℕ → ℕ) → new ≡ filled (bytes_of (w * h)) b bits → out ≡ denoised_written new w h denoised
       → out ≡ filled (bytes_of (w * h)) (byte_of (denoised_at new w h)) denoised
   unfolding denoised_written
-  denoised-done new out b k e =
+  denoised_done new out b k e =
       let t = passes (length p) w h s f (length gray) (length bits) (length denoised) work zero in
       let l : length new ≡ length bits = ap length k ∙ length-filled (bytes_of (w * h)) b bits t.4 in
       let z : denoised_refusal (length new) w h (length denoised) ≡ 0 = rw l t.2 in

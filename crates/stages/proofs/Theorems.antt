@@ -9,48 +9,48 @@ use Rattle.lists.proofs.Tabulate.{length-tabulate}
 use Rattle.binary.specs.Binary.{byte_of, bytes_of}
 use Rattle.image.specs.Gray.{gray_at}
 use Rattle.image.specs.Denoise.{denoised_at}
-use Rattle.blocks.specs.Blocks.{blocks_in, meanAt, leastAt, greatestAt, edge_at, nearAt}
+use Rattle.blocks.specs.Blocks.{blocks_in, mean_at, least_at, greatest_at, edge_at, near_at}
 use Rattle.binarize.specs.Binarize.{is_dark}
-use Rattle.stages.specs.Pictures.{grayPicture, bitPicture, denoisedPicture, blockMeans, blockLeast, blockGreatest, edgeMarks, nearMarks, left_after}
+use Rattle.stages.specs.Pictures.{gray_picture, bit_picture, denoised_picture, block_means, block_least, block_greatest, edge_marks, near_marks, left_after}
 
 module _ (p : List ℕ) (w h s f : ℕ) where
-  pub length-gray : length (grayPicture p w h s f) ≡ w * h
-  unfolding grayPicture
-  length-gray = length-tabulate (w * h) (gray_at p w s f)
+  pub length_gray : length (gray_picture p w h s f) ≡ w * h
+  unfolding gray_picture
+  length_gray = length-tabulate (w * h) (gray_at p w s f)
 
-  pub length-bits : length (bitPicture p w h s f) ≡ bytes_of (w * h)
-  unfolding bitPicture
-  length-bits = length-tabulate (bytes_of (w * h)) (byte_of (is_dark (grayPicture p w h s f) w h))
+  pub length_bits : length (bit_picture p w h s f) ≡ bytes_of (w * h)
+  unfolding bit_picture
+  length_bits = length-tabulate (bytes_of (w * h)) (byte_of (is_dark (gray_picture p w h s f) w h))
 
-  pub length-denoised : length (denoisedPicture p w h s f) ≡ bytes_of (w * h)
-  unfolding denoisedPicture
-  length-denoised = length-tabulate (bytes_of (w * h)) (byte_of (denoised_at (bitPicture p w h s f) w h))
+  pub length_denoised : length (denoised_picture p w h s f) ≡ bytes_of (w * h)
+  unfolding denoised_picture
+  length_denoised = length-tabulate (bytes_of (w * h)) (byte_of (denoised_at (bit_picture p w h s f) w h))
 
-  pub length-means : length (blockMeans p w h s f) ≡ blocks_in w h
-  unfolding blockMeans
-  length-means = length-tabulate (blocks_in w h) (meanAt (grayPicture p w h s f) w h)
+  pub length_means : length (block_means p w h s f) ≡ blocks_in w h
+  unfolding block_means
+  length_means = length-tabulate (blocks_in w h) (mean_at (gray_picture p w h s f) w h)
 
-  pub length-least : length (blockLeast p w h s f) ≡ blocks_in w h
-  unfolding blockLeast
-  length-least = length-tabulate (blocks_in w h) (leastAt (grayPicture p w h s f) w h)
+  pub length-least : length (block_least p w h s f) ≡ blocks_in w h
+  unfolding block_least
+  length-least = length-tabulate (blocks_in w h) (least_at (gray_picture p w h s f) w h)
 
-  pub length-greatest : length (blockGreatest p w h s f) ≡ blocks_in w h
-  unfolding blockGreatest
-  length-greatest = length-tabulate (blocks_in w h) (greatestAt (grayPicture p w h s f) w h)
+  pub length-greatest : length (block_greatest p w h s f) ≡ blocks_in w h
+  unfolding block_greatest
+  length-greatest = length-tabulate (blocks_in w h) (greatest_at (gray_picture p w h s f) w h)
 
-  pub length-edges : length (edgeMarks p w h s f) ≡ blocks_in w h
-  unfolding edgeMarks
-  length-edges = length-tabulate (blocks_in w h) (edge_at (grayPicture p w h s f) w h)
+  pub length_edges : length (edge_marks p w h s f) ≡ blocks_in w h
+  unfolding edge_marks
+  length_edges = length-tabulate (blocks_in w h) (edge_at (gray_picture p w h s f) w h)
 
-  pub length-nears : length (nearMarks p w h s f) ≡ blocks_in w h
-  unfolding nearMarks
-  length-nears = length-tabulate (blocks_in w h) (nearAt (grayPicture p w h s f) w h)
+  pub length_nears : length (near_marks p w h s f) ≡ blocks_in w h
+  unfolding near_marks
+  length_nears = length-tabulate (blocks_in w h) (near_at (gray_picture p w h s f) w h)
 
 -- where nothing is refused; what follows them is not read (candidates/proofs/Tails.antt)
-pub denoised_first : (n : ℕ) (p : List ℕ) (w h s f : ℕ) → n ≡ 0 → (old done : List ℕ) → done ≡ left_after n (denoisedPicture p w h s f) old
-    → take (bytes_of (w * h)) done ≡ denoisedPicture p w h s f
+pub denoised_first : (n : ℕ) (p : List ℕ) (w h s f : ℕ) → n ≡ 0 → (old done : List ℕ) → done ≡ left_after n (denoised_picture p w h s f) old
+    → take (bytes_of (w * h)) done ≡ denoised_picture p w h s f
 unfolding left_after
 denoised_first n p w h s f z old done e =
-    let d = denoisedPicture p w h s f in
+    let d = denoised_picture p w h s f in
     let k : left_after n d old ≡ written d old = ap (λ (n : ℕ). left_after n d old) z in
-    ap (take (bytes_of (w * h))) (e ∙ k) ∙ take_at d (drop (length d) old) (bytes_of (w * h)) (length-denoised p w h s f)
+    ap (take (bytes_of (w * h))) (e ∙ k) ∙ take_at d (drop (length d) old) (bytes_of (w * h)) (length_denoised p w h s f)

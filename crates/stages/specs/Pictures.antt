@@ -7,37 +7,37 @@ use Rattle.lcr_core.specs.declared.Outcome.TheVariants.{Done, FullTable}
 use Rattle.binary.specs.Binary.{byte_of, bytes_of}
 use Rattle.image.specs.Gray.{gray_at}
 use Rattle.image.specs.Denoise.{denoised_at}
-use Rattle.blocks.specs.Blocks.{blocks_in, meanAt, leastAt, greatestAt, edge_at, nearAt}
+use Rattle.blocks.specs.Blocks.{blocks_in, mean_at, least_at, greatest_at, edge_at, near_at}
 use Rattle.binarize.specs.Binarize.{is_dark}
 
 module _ (p : List ℕ) (w h s f : ℕ) where
   -- a gray value for each pixel
-  unfoldable pub grayPicture : List ℕ
-  grayPicture = tabulate (w * h) (gray_at p w s f)
+  unfoldable pub gray_picture : List ℕ
+  gray_picture = tabulate (w * h) (gray_at p w s f)
 
   -- a bit for each pixel, in (width × height + 7) / 8 bytes
-  unfoldable pub bitPicture : List ℕ
-  bitPicture = tabulate (bytes_of (w * h)) (byte_of (is_dark grayPicture w h))
+  unfoldable pub bit_picture : List ℕ
+  bit_picture = tabulate (bytes_of (w * h)) (byte_of (is_dark gray_picture w h))
 
   -- and after denoising
-  unfoldable pub denoisedPicture : List ℕ
-  denoisedPicture = tabulate (bytes_of (w * h)) (byte_of (denoised_at bitPicture w h))
+  unfoldable pub denoised_picture : List ℕ
+  denoised_picture = tabulate (bytes_of (w * h)) (byte_of (denoised_at bit_picture w h))
 
   -- a value or a mark for each block
-  unfoldable pub blockMeans : List ℕ
-  blockMeans = tabulate (blocks_in w h) (meanAt grayPicture w h)
+  unfoldable pub block_means : List ℕ
+  block_means = tabulate (blocks_in w h) (mean_at gray_picture w h)
 
-  unfoldable pub blockLeast : List ℕ
-  blockLeast = tabulate (blocks_in w h) (leastAt grayPicture w h)
+  unfoldable pub block_least : List ℕ
+  block_least = tabulate (blocks_in w h) (least_at gray_picture w h)
 
-  unfoldable pub blockGreatest : List ℕ
-  blockGreatest = tabulate (blocks_in w h) (greatestAt grayPicture w h)
+  unfoldable pub block_greatest : List ℕ
+  block_greatest = tabulate (blocks_in w h) (greatest_at gray_picture w h)
 
-  unfoldable pub edgeMarks : List ℕ
-  edgeMarks = tabulate (blocks_in w h) (edge_at grayPicture w h)
+  unfoldable pub edge_marks : List ℕ
+  edge_marks = tabulate (blocks_in w h) (edge_at gray_picture w h)
 
-  unfoldable pub nearMarks : List ℕ
-  nearMarks = tabulate (blocks_in w h) (nearAt grayPicture w h)
+  unfoldable pub near_marks : List ℕ
+  near_marks = tabulate (blocks_in w h) (near_at gray_picture w h)
 
 -- ---- what a call that answers n leaves of the slices lent to the stages
 
@@ -47,26 +47,26 @@ left_after n new old = cond (eqb n (number_of Done) || eqb n (number_of FullTabl
 
 -- each slice, where p is the picture and n the number answered
 module _ (n : ℕ) (p : List ℕ) (w h s f : ℕ) where
-  abbrev pub grayAfter : List ℕ → List ℕ
-  grayAfter = left_after n (grayPicture p w h s f)
+  abbrev pub gray_after : List ℕ → List ℕ
+  gray_after = left_after n (gray_picture p w h s f)
 
-  abbrev pub bitsAfter : List ℕ → List ℕ
-  bitsAfter = left_after n (bitPicture p w h s f)
+  abbrev pub bits_after : List ℕ → List ℕ
+  bits_after = left_after n (bit_picture p w h s f)
 
-  abbrev pub denoisedAfter : List ℕ → List ℕ
-  denoisedAfter = left_after n (denoisedPicture p w h s f)
+  abbrev pub denoised_after : List ℕ → List ℕ
+  denoised_after = left_after n (denoised_picture p w h s f)
 
-  abbrev pub meansAfter : List ℕ → List ℕ
-  meansAfter = left_after n (blockMeans p w h s f)
+  abbrev pub means_after : List ℕ → List ℕ
+  means_after = left_after n (block_means p w h s f)
 
-  abbrev pub leastAfter : List ℕ → List ℕ
-  leastAfter = left_after n (blockLeast p w h s f)
+  abbrev pub least_after : List ℕ → List ℕ
+  least_after = left_after n (block_least p w h s f)
 
-  abbrev pub greatestAfter : List ℕ → List ℕ
-  greatestAfter = left_after n (blockGreatest p w h s f)
+  abbrev pub greatest_after : List ℕ → List ℕ
+  greatest_after = left_after n (block_greatest p w h s f)
 
-  abbrev pub edgesAfter : List ℕ → List ℕ
-  edgesAfter = left_after n (edgeMarks p w h s f)
+  abbrev pub edges_after : List ℕ → List ℕ
+  edges_after = left_after n (edge_marks p w h s f)
 
-  abbrev pub nearsAfter : List ℕ → List ℕ
-  nearsAfter = left_after n (nearMarks p w h s f)
+  abbrev pub nears_after : List ℕ → List ℕ
+  nears_after = left_after n (near_marks p w h s f)

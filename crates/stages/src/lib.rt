@@ -1,8 +1,10 @@
 // The picture stages in one call: gray conversion, black and white conversion and denoising, all checked before a byte is written.
+#![tactic(auto)]
+
 ghost use Rattle.std.specs.Prelude.{◌≡◌, ◌∷◌, []};
 ghost use Rattle.lcr_core.specs.Outcome.{number_of};
 ghost use Rattle.stages.specs.Stages.{stages_refusal, refusal_of};
-ghost use Rattle.stages.specs.Pictures.{grayAfter, bitsAfter, denoisedAfter, meansAfter, leastAfter, greatestAfter, edgesAfter, nearsAfter};
+ghost use Rattle.stages.specs.Pictures.{gray_after, bits_after, denoised_after, means_after, least_after, greatest_after, edges_after, nears_after};
 
 use lcr_core::Outcome;
 
@@ -55,14 +57,14 @@ fn run_checked(
 )
     requires { refusal_of picture.now width height stride format gray.old bits.old denoised.old
         (means.old ∷ least.old ∷ greatest.old ∷ edges.old ∷ nears.old ∷ []) ≡ 0 }
-    ensures gray { gray.new ≡ grayAfter 0 picture.now width height stride format gray.old }
-    ensures bits { bits.new ≡ bitsAfter 0 picture.now width height stride format bits.old }
-    ensures denoised { denoised.new ≡ denoisedAfter 0 picture.now width height stride format denoised.old }
-    ensures means { means.new ≡ meansAfter 0 picture.now width height stride format means.old }
-    ensures least { least.new ≡ leastAfter 0 picture.now width height stride format least.old }
-    ensures greatest { greatest.new ≡ greatestAfter 0 picture.now width height stride format greatest.old }
-    ensures edges { edges.new ≡ edgesAfter 0 picture.now width height stride format edges.old }
-    ensures nears { nears.new ≡ nearsAfter 0 picture.now width height stride format nears.old }
+    ensures gray { gray.new ≡ gray_after 0 picture.now width height stride format gray.old }
+    ensures bits { bits.new ≡ bits_after 0 picture.now width height stride format bits.old }
+    ensures denoised { denoised.new ≡ denoised_after 0 picture.now width height stride format denoised.old }
+    ensures means { means.new ≡ means_after 0 picture.now width height stride format means.old }
+    ensures least { least.new ≡ least_after 0 picture.now width height stride format least.old }
+    ensures greatest { greatest.new ≡ greatest_after 0 picture.now width height stride format greatest.old }
+    ensures edges { edges.new ≡ edges_after 0 picture.now width height stride format edges.old }
+    ensures nears { nears.new ≡ nears_after 0 picture.now width height stride format nears.old }
 {
     image::gray::gray_buffer(picture, width, height, stride, format, gray);
     binarize::binarize(
@@ -90,14 +92,14 @@ pub fn stages(
 ) -> Outcome
     ensures refusal { number_of result ≡ refusal_of picture.now width height stride format gray.old bits.old denoised.old
         (means.old ∷ least.old ∷ greatest.old ∷ edges.old ∷ nears.old ∷ []) }
-    ensures gray { gray.new ≡ grayAfter (number_of result) picture.now width height stride format gray.old }
-    ensures bits { bits.new ≡ bitsAfter (number_of result) picture.now width height stride format bits.old }
-    ensures denoised { denoised.new ≡ denoisedAfter (number_of result) picture.now width height stride format denoised.old }
-    ensures means { means.new ≡ meansAfter (number_of result) picture.now width height stride format means.old }
-    ensures least { least.new ≡ leastAfter (number_of result) picture.now width height stride format least.old }
-    ensures greatest { greatest.new ≡ greatestAfter (number_of result) picture.now width height stride format greatest.old }
-    ensures edges { edges.new ≡ edgesAfter (number_of result) picture.now width height stride format edges.old }
-    ensures nears { nears.new ≡ nearsAfter (number_of result) picture.now width height stride format nears.old }
+    ensures gray { gray.new ≡ gray_after (number_of result) picture.now width height stride format gray.old }
+    ensures bits { bits.new ≡ bits_after (number_of result) picture.now width height stride format bits.old }
+    ensures denoised { denoised.new ≡ denoised_after (number_of result) picture.now width height stride format denoised.old }
+    ensures means { means.new ≡ means_after (number_of result) picture.now width height stride format means.old }
+    ensures least { least.new ≡ least_after (number_of result) picture.now width height stride format least.old }
+    ensures greatest { greatest.new ≡ greatest_after (number_of result) picture.now width height stride format greatest.old }
+    ensures edges { edges.new ≡ edges_after (number_of result) picture.now width height stride format edges.old }
+    ensures nears { nears.new ≡ nears_after (number_of result) picture.now width height stride format nears.old }
 {
     let checked = check_stages(
         picture.len(),

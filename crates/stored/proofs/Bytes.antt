@@ -8,7 +8,7 @@ use lib.Ieee.{binary32, to_bits}
 use Rattle.lists.specs.Lists.{flat_map, written}
 use Rattle.little_endian.specs.Bytes.{bytes_le, put}
 use Rattle.little_endian.proofs.Halves.{put-append}
-use Rattle.little_endian.proofs.Pieces.{put_then, length-flat}
+use Rattle.little_endian.proofs.Pieces.{put_then, length_flat}
 use Rattle.little_endian.proofs.Round.{length_bytes, put_front}
 use Rattle.geometry.specs.declared.Finder.{Finder}
 use Rattle.stored.specs.Stored.{head_bytes, place_bytes, size_bytes, size_of, stored_bytes}
@@ -46,7 +46,7 @@ head_is w h n l =
 pub length_stored : (w h : ℕ) (fs : List Finder) → length (stored_bytes w h fs) ≡ size_of (length fs)
 unfolding stored_bytes
 length_stored w h fs =
-    omega (arith, length-append (head_bytes w h (length fs)) (flat_map place_bytes fs ++ flat_map size_bytes fs), length-append (flat_map place_bytes fs) (flat_map size_bytes fs), length_head w h (length fs), length-flat place_bytes 8 length-place fs, length-flat size_bytes 8 length_size fs)
+    omega (arith, length-append (head_bytes w h (length fs)) (flat_map place_bytes fs ++ flat_map size_bytes fs), length-append (flat_map place_bytes fs) (flat_map size_bytes fs), length_head w h (length fs), length_flat place_bytes 8 length-place fs, length_flat size_bytes 8 length_size fs)
 
 -- ---- the whole list
 pub stored_is : (w h : ℕ) (fs : List Finder) (n : ℕ) (l : List ℕ) → n ≡ length fs → size_of n ≤ length l
@@ -58,6 +58,6 @@ stored_is w h fs n l e fit =
     let D = head_bytes w h (length fs) in
     let d : length (D ++ (P ++ S)) ≤ length l = omega (arith, length_stored w h fs) in
     ap (λ z. put S (6 + 8 * n) (put P 6 (put (head_bytes w h z) 0 l))) e
-    ∙ put_then (8 * n) P S 6 (6 + 8 * n) (put D 0 l) (length-flat place_bytes 8 length-place fs ∙ ap (λ z. 8 * z) (sym e)) refl
+    ∙ put_then (8 * n) P S 6 (6 + 8 * n) (put D 0 l) (length_flat place_bytes 8 length-place fs ∙ ap (λ z. 8 * z) (sym e)) refl
     ∙ put_then 6 D (P ++ S) 0 6 l (length_head w h (length fs)) refl
     ∙ put_front (D ++ (P ++ S)) l d

@@ -8,7 +8,7 @@ use lib.Dec.{eqb}
 use lib.ListN.{length, set, length-append}
 use borrow.Author.Tests.{ltb-false}
 use Rattle.lists.specs.Lists.{tabulate, padded}
-use Rattle.lists.proofs.Padded.{padded-more}
+use Rattle.lists.proofs.Padded.{padded_more}
 use Rattle.lists.proofs.Tabulate.{length-tabulate}
 use Rattle.lcr_core.specs.Outcome.{first_of, zero_side, large_side, unless}
 use Rattle.lcr_core.specs.Passed.{Sides}
@@ -62,7 +62,7 @@ one_more t g k f e h q =
     same (sym a)
     (ap (λ z. set z k f) (ap (λ (z : Finders). z.table) e)
     ∙ rw (q)
-    (ap (λ z. set (padded max_finders zero_finder (tabulate k g)) z (g k)) (sym n) ∙ padded-more max_finders zero_finder (tabulate k g) (g k) l))
+    (ap (λ z. set (padded max_finders zero_finder (tabulate k g)) z (g k)) (sym n) ∙ padded_more max_finders zero_finder (tabulate k g) (g k) l))
     ∙ ap (λ z. table_of (tabulate z g)) (sym (add-one k))
   where
     same : {n m : ℕ} {t u : List Finder} → n ≡ m → t ≡ u → ◌≡◌ {A = Finders} (record { count = n; table = t }) (record { count = m; table = u })

@@ -1,4 +1,6 @@
 // The stored list of a picture's finders: its reader and its writer.
+#![tactic(auto)]
+
 ghost use Rattle.std.specs.Prelude.{◌≡◌, length};
 ghost use Rattle.lists.specs.Lists.{written};
 ghost use Rattle.lcr_core.specs.Outcome.{unless};
@@ -12,7 +14,7 @@ mod read;
 mod write;
 
 // What a stored list holds, or a refusal, and then zeros.
-#[derive(Drop)]
+#[derive(Clone, Copy)]
 pub struct Stored {
     pub refusal: u8,
     pub width: u16,
@@ -21,7 +23,7 @@ pub struct Stored {
 }
 
 // How many bytes were written, or a refusal, and then 0.
-#[derive(Drop)]
+#[derive(Clone, Copy)]
 pub struct Written {
     pub refusal: u8,
     pub len: u32,

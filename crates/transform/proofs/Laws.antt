@@ -24,15 +24,15 @@ apart_is w a b e t = ap (λ (b : Bool). cond b d1e_9 w) (sym t) ∙ ap (λ (a : 
 
 -- ---- fits: the tables of rows, pasted one after the other
 module _ (w₀ w₁ w₂ w₃ d₀ d₁ d₂ d₃ : Wide) (r₀ r₁ r₂ r₃ a₁ a₂ a₃ a₄ : List Float) where
-  pub quad-table : r₀ ≡ homography_rows w₀ d₀ → r₁ ≡ homography_rows w₁ d₁ → r₂ ≡ homography_rows w₂ d₂ → r₃ ≡ homography_rows w₃ d₃
+  pub quad_table : r₀ ≡ homography_rows w₀ d₀ → r₁ ≡ homography_rows w₁ d₁ → r₂ ≡ homography_rows w₂ d₂ → r₃ ≡ homography_rows w₃ d₃
       → a₁ ≡ paste (replicate 64 d0) 0 r₀ (length r₀) → a₂ ≡ paste a₁ 16 r₁ (length r₁) → a₃ ≡ paste a₂ 32 r₂ (length r₂) → a₄ ≡ paste a₃ 48 r₃ (length r₃)
       → a₄ ≡ homography_rows w₀ d₀ ++ homography_rows w₁ d₁ ++ homography_rows w₂ d₂ ++ homography_rows w₃ d₃
-  quad-table g₀ g₁ g₂ g₃ e₁ e₂ e₃ e₄ = rw (e₄, e₃, e₂, e₁, g₀, g₁, g₂, g₃)
+  quad_table g₀ g₁ g₂ g₃ e₁ e₂ e₃ e₄ = rw (e₄, e₃, e₂, e₁, g₀, g₁, g₂, g₃)
 
 module _ (w₀ w₁ w₂ : Wide) (r₀ r₁ r₂ a₁ a₂ a₃ : List Float) where
-  pub triangle-table : r₀ ≡ affine_rows w₀ → r₁ ≡ affine_rows w₁ → r₂ ≡ affine_rows w₂
+  pub triangle_table : r₀ ≡ affine_rows w₀ → r₁ ≡ affine_rows w₁ → r₂ ≡ affine_rows w₂
       → a₁ ≡ paste (replicate 36 d0) 0 r₀ (length r₀) → a₂ ≡ paste a₁ 12 r₁ (length r₁) → a₃ ≡ paste a₂ 24 r₂ (length r₂) → a₃ ≡ affine_rows w₀ ++ affine_rows w₁ ++ affine_rows w₂
-  triangle-table g₀ g₁ g₂ e₁ e₂ e₃ = rw (e₃, e₂, e₁, g₀, g₁, g₂)
+  triangle_table g₀ g₁ g₂ e₁ e₂ e₃ = rw (e₃, e₂, e₁, g₀, g₁, g₂)
 
 pub quad_is : (s d : Quad) (w₀ w₁ w₂ w₃ d₀ d₁ d₂ d₃ : Wide) (a : List Float) (r : Solution) → w₀ ≡ widened s.a → w₁ ≡ widened s.b → w₂ ≡ widened s.c → w₃ ≡ widened s.d
     → d₀ ≡ widened d.a → d₁ ≡ widened d.b → d₂ ≡ widened d.c → d₃ ≡ widened d.d

@@ -27,30 +27,30 @@ nan_not_zero = refl
 
 -- ---- strength 0: what the eight numbers alone give, as before there were lens terms, whatever the centre
 module _ (t : Transform) (e : eq t.strength d0 ≡ true) where
-  pub strength-zero : (u v : Float) → applied t u v ≡ placed t.m u v
+  pub strength_zero : (u v : Float) → applied t u v ≡ placed t.m u v
   unfolding applied
-  strength-zero u v = rw e
+  strength_zero u v = rw e
 
 -- so that the transform without its lens gives the same points, centres and pitches
 module _ (t : Transform) (e : eq t.strength d0 ≡ true) where
-  pub same-places : (u v : Float) → applied t u v ≡ applied (plain t.m) u v
-  same-places u v = strength-zero t e u v ∙ sym (strength-zero (plain t.m) is_zero u v)
+  pub same_places : (u v : Float) → applied t u v ≡ applied (plain t.m) u v
+  same_places u v = strength_zero t e u v ∙ sym (strength_zero (plain t.m) is_zero u v)
 
   same_in : (x y : ℕ) (dx dy : Float) → in_module t x y dx dy ≡ in_module (plain t.m) x y dx dy
   unfolding in_module
-  same_in x y dx dy = same-places (plus32 (whole32 x) dx) (plus32 (whole32 y) dy)
+  same_in x y dx dy = same_places (plus32 (whole32 x) dx) (plus32 (whole32 y) dy)
 
-  pub same-center : (x y : ℕ) → center_of t x y ≡ center_of (plain t.m) x y
+  pub same_center : (x y : ℕ) → center_of t x y ≡ center_of (plain t.m) x y
   unfolding center_of
-  same-center x y = same_in x y half half
+  same_center x y = same_in x y half half
 
-  pub same-pitch : (x y : ℕ) → pitch_at t x y ≡ pitch_at (plain t.m) x y
+  pub same_pitch : (x y : ℕ) → pitch_at t x y ≡ pitch_at (plain t.m) x y
   unfolding pitch_at
-  same-pitch x y = rw (same-center x y, same_in x y f1_5 half, same_in x y half f1_5)
+  same_pitch x y = rw (same_center x y, same_in x y f1_5 half, same_in x y half f1_5)
 
-  pub same-pitches : (side : ℕ) → pitches_of t side ≡ pitches_of (plain t.m) side
+  pub same_pitches : (side : ℕ) → pitches_of t side ≡ pitches_of (plain t.m) side
   unfolding pitches_of
-  same-pitches side = let far = side - 2 in rw (same-pitch 0 0, same-pitch far 0, same-pitch 0 far, same-pitch far far)
+  same_pitches side = let far = side - 2 in rw (same_pitch 0 0, same_pitch far 0, same_pitch 0 far, same_pitch far far)
 
 -- ---- a not-a-number gives not-a-numbers
 plus_nan : (x : Float) → plus64 x nan ≡ nan

@@ -1,23 +1,25 @@
 // The projective map from module coordinates to pixels, and the lens behind it. Positions are f32; the map's numbers and steps are f64.
+#![tactic(auto)]
+
 ghost use Rattle.std.specs.Prelude.{◌≡◌, ◌+◌, ◌≤◌, length};
 ghost use Rattle.std.proofs.Math.Seq.{paste as pasted};
 ghost use Rattle.transform.specs.Fit.{plain, zero_transform, identity_transform, widened, homography_rows, affine_rows, fit_of, quad_fit, triangle_fit};
 ghost use Rattle.transform.specs.Apply.{linear_of, apart_of, projected, narrowed, placed, offset_of, divided, bent, applied, with_radial, center_of, distance2_of, distance_of, pitch_at, pitches_of};
 
-#[derive(Drop)]
+#[derive(Clone, Copy)]
 pub struct Point {
     pub x: f32,
     pub y: f32,
 }
 
-#[derive(Drop)]
+#[derive(Clone, Copy)]
 pub struct Triangle {
     pub a: Point,
     pub b: Point,
     pub c: Point,
 }
 
-#[derive(Drop)]
+#[derive(Clone, Copy)]
 pub struct Quad {
     pub a: Point,
     pub b: Point,
@@ -27,7 +29,7 @@ pub struct Quad {
 
 // (u, v) goes to ((m0 u + m1 v + m2) / w, (m3 u + m4 v + m5) / w) with w = m6 u + m7 v + 1, and from there through a lens about (cx, cy), unless its
 // strength is 0.
-#[derive(Drop)]
+#[derive(Clone, Copy)]
 pub struct Transform {
     pub m: [f64; 8],
     pub cx: f64,
@@ -36,21 +38,21 @@ pub struct Transform {
 }
 
 // A transform, or none, and then zeros.
-#[derive(Drop)]
+#[derive(Clone, Copy)]
 pub struct Fit {
     pub found: bool,
     pub transform: Transform,
 }
 
 // The least and the greatest module pitch of a symbol's corners.
-#[derive(Drop)]
+#[derive(Clone, Copy)]
 pub struct Pitches {
     pub least: f32,
     pub greatest: f32,
 }
 
 // A point in f64.
-#[derive(Drop)]
+#[derive(Clone, Copy)]
 struct Wide {
     x: f64,
     y: f64,

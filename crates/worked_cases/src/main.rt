@@ -1,4 +1,6 @@
 // Document 01's cases that a program runs: the spread that makes an edge, and the version of an estimated side.
+#![tactic(auto)]
+
 use geometry::{Corners, Finder};
 use lcr_core::version::Found;
 

@@ -1,0 +1,27 @@
+-- `alignment::match_alignment` meets its contract. Assumes nothing.
+use native.Mathlib.Omega.{arith}
+use mathlib.Core.Path.{sym, ◌∙◌}
+use Rattle.lcr_core.specs.Passed.{Sides}
+use Rattle.rows.proofs.Answers.{refused, done}
+use Rattle.alignment.proofs.Refusals.{passed}
+use Rattle.alignment.specs.Alignment.{match_of}
+use Rattle.alignment.proofs.match_alignment.Goals.{Else-refusal-ne0}
+use Rattle.alignment.proofs.match_alignment.Goals as goal
+
+-- the sides of a picture that is not refused
+sides : (c : Else-refusal-ne0) → Sides c.args.width c.args.height
+sides c = passed _ _ _ _ (sym c.check-refusal.ensures ∙ c.if-refusal-ne0.false)
+
+pub returns-then-refusal-ne0 : goal.returns-then-refusal-ne0
+unfolding match_of
+returns-then-refusal-ne0 c = refused _ _ _ c.if-refusal-ne0.true c.check-refusal.ensures
+
+pub overflow_cast-width : goal.overflow_cast-width
+overflow_cast-width c = omega (arith, sides c)
+
+pub overflow_cast-height : goal.overflow_cast-height
+overflow_cast-height c = omega (arith, sides c)
+
+pub returns : goal.returns
+unfolding match_of
+returns c = done _ _ _ _ c.if-refusal-ne0.false c.check-refusal.ensures c.matched-marker.ensures

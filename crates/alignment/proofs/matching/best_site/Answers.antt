@@ -1,0 +1,18 @@
+-- `alignment::matching::best_site` meets its contract. Assumes nothing.
+use mathlib.Core.Path.{refl}
+use native.Mathlib.Omega.{arith}
+use Rattle.alignment.proofs.Colours.{known_nothing}
+use Rattle.alignment.proofs.Raised.{best_by}
+use Rattle.alignment.proofs.matching.best_site.Goals as goal
+
+pub sweep-b-requires : goal.sweep-b-requires
+sweep-b-requires c = (omega arith, omega arith, known_nothing _ _ _ _ _ _ _ _ _ refl)
+
+pub sweep-requires : goal.sweep-requires
+sweep-requires c = (omega arith, omega arith, known_nothing _ _ _ _ _ _ _ _ _ refl)
+
+pub returns : goal.returns
+returns c =
+    let a = c.args in
+    best_by a.bits.now a.width a.height a.t _ _ _ _ _ _ c.centre-c.ensures c.first_sweep-a.ensures c.sweep-b.ensures c.raised.ensures
+    c.sweep.ensures

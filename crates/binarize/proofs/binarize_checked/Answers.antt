@@ -1,0 +1,33 @@
+-- `binarize::binarize_checked` meets its contract. Assumes nothing.
+use mathlib.Core.Path.{sym, ◌∙◌}
+use native.Mathlib.Omega.{arith}
+use Rattle.lcr_core.proofs.Checks.{unless_done}
+use Rattle.binary.proofs.Words.{bytes_same}
+use Rattle.blocks.proofs.Marking.{at-filled}
+use Rattle.blocks.proofs.Refusals as blocks
+use Rattle.binarize.proofs.Brighter.{dark_same}
+use Rattle.binarize.proofs.binarize_checked.Goals as goal
+
+pub put_picture-requires : goal.put_picture-requires
+put_picture-requires c =
+    let q = c.requires in
+    let p = blocks.passes _ _ _ _ _ _ _ _ q.values in
+    (p.sides, p.bytes, omega arith, omega arith, omega arith, q.bits)
+
+pub returns : goal.returns
+returns c =
+    let a = c.args in
+    let e = c.block_values.ensures in
+    let z = e.refusal ∙ c.requires.values in
+    let means = e.means ∙ sym (unless_done _ _ _ z) in
+    let edges = e.edges ∙ sym (unless_done _ _ _ z) in
+    let nears = e.nears ∙ sym (unless_done _ _ _ z) in record {
+      means_after = means;
+      least_after = e.least ∙ sym (unless_done _ _ _ z);
+      greatest_after = e.greatest ∙ sym (unless_done _ _ _ z);
+      edges_after = edges;
+      nears_after = nears;
+      bits_after = c.put_picture.ensures
+          ∙ bytes_same _ _ _ _
+          (dark_same _ _ _ _ _ _ a.gray.now a.width a.height (at-filled _ _ _ _ means) (at-filled _ _ _ _ edges) (at-filled _ _ _ _ nears));
+    }

@@ -1,0 +1,30 @@
+-- `binarize::levels::level_in` meets its contract. Assumes nothing.
+use mathlib.Core.Path.{sym, ap₂, ◌∙◌}
+use mathlib.Core.List.{List}
+use Prim.Native.Nat.{ℕ, ◌/◌}
+use Rattle.lists.specs.Lists.{range}
+use Rattle.blocks.specs.Blocks.{at, cells}
+use Rattle.binarize.specs.Levels.{marked_means}
+use Rattle.binarize.specs.Splits.{Tallied}
+use Rattle.binarize.proofs.Tallies.{tallied}
+use Rattle.binarize.proofs.LevelLaws.{level-none, level_some}
+use Rattle.binarize.proofs.levels.level_in.Goals.{After-window_split-all}
+use Rattle.binarize.proofs.levels.level_in.Goals as goal
+
+-- the means in the window
+abbrev inside : After-window_split-all → List ℕ
+inside c =
+    let a = c.args in marked_means (at a.means.now) (at a.marks.now) (cells a.w (range a.a a.b) (range a.c a.d))
+
+-- what the first pass counted
+first : (c : After-window_split-all) → Tallied (inside c) 0 c.window_split-all.result
+first c = tallied _ _ _ _ _ c.window_split-all.ensures.0
+
+pub returns-then-all-eq0 : goal.returns-then-all-eq0
+returns-then-all-eq0 c = level-none (inside (goal.at.returns-then-all-eq0 c).After-window_split-all) (sym (first (goal.at.returns-then-all-eq0 c).After-window_split-all).count ∙ c.if-all-eq0.true)
+
+pub returns : goal.returns
+returns c =
+    let t = first (goal.at.returns c).After-window_split-all in
+    level_some (inside (goal.at.returns c).After-window_split-all) _ _ _ (λ e. c.if-all-eq0.false (t.count ∙ e))
+    (c.mean_of-mean.ensures ∙ ap₂ (λ (x y : ℕ). x / y) t.total t.count) (tallied _ _ _ _ _ c.window_split-two.ensures.0) c.midpoint.ensures

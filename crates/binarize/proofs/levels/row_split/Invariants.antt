@@ -1,0 +1,15 @@
+-- `binarize::levels::row_split` meets its contract: the columns before x are counted. Assumes nothing.
+use Prim.Native.Nat.{ℕ, ◌+◌, ◌-◌, ◌≤◌}
+use mathlib.Core.Path.{◌≡◌}
+use Rattle.lists.specs.Lists.{range, folded}
+use Rattle.blocks.specs.Blocks.{at}
+use Rattle.binarize.specs.Splits.{column_step, Bounded}
+use Rattle.binarize.proofs.levels.row_split.Given as goal
+
+abbrev pub invariant-loop-x : goal.invariant-loop-x
+invariant-loop-x l =
+    (l.a ≤ l.x) × (l.x ≤ l.b) × (folded (column_step (at l.means) (at l.marks) l.bound l.from) l.initial.r (range l.a l.b) ≡ folded (column_step (at l.means) (at l.marks) l.bound l.from) l.r (range l.x l.b))
+    × ((n : ℕ) → Bounded n l.initial.r → Bounded (n + (l.x - l.a)) l.r)
+
+abbrev pub decreases-loop-x : goal.decreases-loop-x
+decreases-loop-x l = l.b - l.x

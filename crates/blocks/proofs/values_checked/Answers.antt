@@ -1,0 +1,9 @@
+-- `blocks::values_checked` meets its contract. Assumes nothing.
+use mathlib.Core.Path.{◌∙◌}
+use Rattle.blocks.proofs.Marking.{edges_same, nears_same}
+use Rattle.blocks.proofs.values_checked.Goals as goal
+
+pub returns : goal.returns
+returns c =
+    let a = c.args in
+    let v = c.all_values.ensures in record { means_after = v.means_after; least_after = v.least_after; greatest_after = v.greatest_after; edges_after = c.edge_marks.ensures ∙ edges_same a.gray.now a.w a.h _ _ _ _ v.least_after v.greatest_after _; nears_after = c.near_marks.ensures ∙ nears_same a.gray.now a.w a.h _ _ _ _ v.least_after v.greatest_after _ }

@@ -1,0 +1,13 @@
+-- `entries::plate_finders` meets its contract. Assumes nothing.
+use Rattle.lcr_core.proofs.Checks.{unless-refused}
+use Rattle.entries.proofs.Lists.{list_refused, list_written}
+use Rattle.entries.proofs.plate_finders.Goals as goal
+
+pub returns-then-n-ne0 : goal.returns-then-n-ne0
+returns-then-n-ne0 c = record { number = list_refused _ _ _ _ _ c.find_finders-found.ensures c.if-n-ne0.true; list = unless-refused _ _ _ c.if-n-ne0.true }
+
+pub returns : goal.returns
+returns c =
+    let e = c.find_finders-found.ensures in
+    let s = c.write_list-written.ensures in
+    record { number = list_written _ _ _ _ _ e _ c.if-n-ne0.false s.refusal; list = rw (← e) s.bytes }

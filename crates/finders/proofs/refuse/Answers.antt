@@ -1,0 +1,5 @@
+-- `finders::refuse` meets its contract. Assumes nothing.
+use Rattle.finders.proofs.refuse.Goals as goal
+
+pub returns : goal.returns
+returns c = rw (c.number.ensures, c.no_finders-none.ensures)

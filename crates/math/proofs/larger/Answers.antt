@@ -1,0 +1,5 @@
+-- `math::larger` meets its contract. Assumes nothing.
+use Rattle.math.proofs.larger.Goals as goal
+
+pub returns : goal.returns
+returns c = cc (c.abs64-a.ensures, c.abs64-b.ensures)

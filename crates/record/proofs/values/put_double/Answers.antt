@@ -1,0 +1,5 @@
+-- `record::values::put_double` meets its contract. Assumes nothing.
+use Rattle.record.proofs.values.put_double.Goals as goal
+
+pub returns : goal.returns
+returns c = rw (← c.bits64.ensures) c.put64.ensures

@@ -1,0 +1,5 @@
+-- `record::values::put_float` meets its contract. Assumes nothing.
+use Rattle.record.proofs.values.put_float.Goals as goal
+
+pub returns : goal.returns
+returns c = rw (← c.bits32.ensures) c.put32.ensures

@@ -1,0 +1,7 @@
+-- `transform::Transform::place` meets its contract. Assumes nothing.
+use Rattle.transform.specs.Apply.{placed}
+use Rattle.transform.proofs.Transform.place.Goals as goal
+
+pub returns : goal.returns
+unfolding placed
+returns c = rw (c.narrow.ensures, c.project.ensures, c.widen.ensures)
