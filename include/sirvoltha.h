@@ -1,8 +1,8 @@
 /* The quay plate detector for C: the whole chain in one call.
 
-   `rt staticlib chain` builds target/staticlib/libchain.a (x86-64, needs only memcpy and memset). The function allocates nothing, keeps
+   `tools/staticlib chain` builds target/staticlib/libchain.a (x86-64, needs only memcpy and memset). The function allocates nothing, keeps
    nothing between calls, and may run in several threads on different buffers. It takes any numbers and lengths: what is unfit is refused.
-   Its contract, which is proved, stands in crates/chain/src/entry.rt.
+   Its contract, which is proved, stands in crates/chain/src/entry.rt, and in crates/chain_c/src/lib.rt over the call that C makes.
 
    What the caller sees to, since no length or number says it:
    - A pointer is not null, also where its length is 0, and leads to as many bytes as its length says. No buffer that is written overlaps
@@ -43,8 +43,8 @@ enum { PLATE_GRAY8 = 1, PLATE_RGB8 = 3, PLATE_RGBA8 = 4 };
 #define PLATE_BLOCKS(w, h) ((((size_t)(w) + 7) / 8) * (((size_t)(h) + 7) / 8))
 #define PLATE_DETECTION_BYTES 367
 
-/* A call takes less stack than this, whatever the picture: 29,056 bytes, and where the dynamic linker binds memcpy at its first call what it
-   takes for that, some 3,000 bytes as measured (README.md). It holds for the single stages of sirvoltha_stages.h too. */
+/* A call takes less stack than this, whatever the picture: 29,056 bytes as the older kit built it, and where the dynamic linker binds memcpy at
+   its first call what it takes for that, some 3,000 bytes as measured (README.md). It holds for the single stages of sirvoltha_stages.h too. */
 #define PLATE_STACK_BYTES 40960
 
 /* Looks for plates in a picture.

@@ -100,9 +100,9 @@ pub fn hex(bytes: &[u8]) -> String {
     bytes.iter().flat_map(two).collect()
 }
 
-/// The command for a group's records: REPLAY, or its program in target/bin.
+/// The command for a group's records: REPLAY, or its program as rt ci leaves it.
 fn program(group: &str) -> String {
-    std::env::var("REPLAY").unwrap_or_else(|_| format!("target/bin/{}", program_of(group)))
+    std::env::var("REPLAY").unwrap_or_else(|_| format!("crates/{0}/out/{0}", program_of(group)))
 }
 
 /// Keeps a record whose answer differs, so that it can be fed again.

@@ -13,7 +13,7 @@ use std::fmt::Write as _;
 use std::io::Write as _;
 use std::process::{Command, Stdio};
 
-pub const PROGRAM: &str = "target/bin/listing";
+pub const PROGRAM: &str = "crates/listing/out/listing";
 
 fn digits32(v: f32) -> String {
     format!("{:08x}", if v.is_nan() { 0x7fc0_0000 } else { v.to_bits() })

@@ -1,0 +1,43 @@
+// The whole chain for the unit's firmware, which is C: numbers as themselves, a slice as its pointer and its length (include/sirvoltha.h).
+#![tactic(auto)]
+
+ghost use Rattle.std.specs.Prelude.{◌≡◌, ◌∷◌, []};
+ghost use Rattle.stages.specs.Pictures.{gray_after, bits_after, denoised_after, means_after, least_after, greatest_after, edges_after, nears_after};
+ghost use Rattle.chain.specs.Chain.{entry_answer, detections_after};
+
+// The chain, and its detections as bytes in `detections`. Refusals 1 to 5 come before a byte is written; after 6, too many finders, all but `detections`
+// is as after 0.
+#[unsafe(no_mangle)]
+pub extern "C" fn plate_chain(
+    picture: &[u8],
+    width: u32,
+    height: u32,
+    stride: u32,
+    format: u8,
+    gray: &mut [u8],
+    bits: &mut [u8],
+    denoised: &mut [u8],
+    means: &mut [u8],
+    least: &mut [u8],
+    greatest: &mut [u8],
+    edges: &mut [u8],
+    nears: &mut [u8],
+    detections: &mut [u8],
+) -> u8
+    ensures refusal { result ≡ (entry_answer picture.now width height stride format gray.old bits.old denoised.old
+        (means.old ∷ least.old ∷ greatest.old ∷ edges.old ∷ nears.old ∷ []) detections.old).refusal }
+    ensures gray { gray.new ≡ gray_after result picture.now width height stride format gray.old }
+    ensures bits { bits.new ≡ bits_after result picture.now width height stride format bits.old }
+    ensures denoised { denoised.new ≡ denoised_after result picture.now width height stride format denoised.old }
+    ensures means { means.new ≡ means_after result picture.now width height stride format means.old }
+    ensures least { least.new ≡ least_after result picture.now width height stride format least.old }
+    ensures greatest { greatest.new ≡ greatest_after result picture.now width height stride format greatest.old }
+    ensures edges { edges.new ≡ edges_after result picture.now width height stride format edges.old }
+    ensures nears { nears.new ≡ nears_after result picture.now width height stride format nears.old }
+    ensures detections { detections.new ≡ detections_after result picture.now width height stride format detections.old }
+{
+    chain::entry::plate_chain(
+        picture, width, height, stride, format, gray, bits, denoised, means, least, greatest,
+        edges, nears, detections,
+    )
+}
