@@ -35,7 +35,7 @@ overflow_mul-w c = let s = sides c in omega (arith, mul_bound _ _ 4096 4096 s.w_
 pub returns-then-len-w : goal.returns-then-len-w
 unfolding blocks_refusal
 returns-then-len-w c =
-    let c2 = (goal.at.returns-then-len-w c).Else-large_side in simp (passed_1 (goal.at.returns-then-len-w c).Else-zero_side, passed_2 (goal.at.returns-then-len-w c).Else-large_side, lt-ltb _ _ c.if-len-w.true)
+    simp (passed_1 (goal.at.returns-then-len-w c).Else-zero_side, passed_2 (goal.at.returns-then-len-w c).Else-large_side, lt-ltb _ _ c.if-len-w.true)
 
 pub overflow_mul-n : goal.overflow_mul-n
 overflow_mul-n c =
@@ -47,11 +47,9 @@ overflow_mul-n c =
 pub returns-then-short_work : goal.returns-then-short_work
 unfolding blocks_refusal
 returns-then-short_work c =
-    let c2 = (goal.at.returns-then-short_work c).Else-large_side in
     simp (passed_1 (goal.at.returns-then-short_work c).Else-zero_side, passed_2 (goal.at.returns-then-short_work c).Else-large_side, le-ltb _ _ c.if-len-w.false, sym c.short_work.ensures ∙ c.if-short_work.true)
 
 pub returns : goal.returns
 unfolding blocks_refusal
 returns c =
-    let c2 = (goal.at.returns c).Else-large_side in
     simp (passed_1 (goal.at.returns c).Else-zero_side, passed_2 (goal.at.returns c).Else-large_side, le-ltb _ _ c.if-len-w.false, sym c.short_work.ensures ∙ c.if-short_work.false)

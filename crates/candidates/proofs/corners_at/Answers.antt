@@ -5,10 +5,11 @@ use native.Mathlib.Omega.{arith}
 use lib.ListN.{length}
 use Rattle.candidates.proofs.Tables.{eight-at, corners_at_lem}
 use Rattle.candidates.proofs.corners_at.Goals.{Start}
+use borrow.Author.Rules.{rules}
 use Rattle.candidates.proofs.corners_at.Goals as goal
 
 long : (c : Start) → length c.args.t.at ≡ 8
-long c = c.well_formed.0.1.1.1.0.1.0.1
+long c = search rules
 
 eight : (c : Start) → (c.args.s.i < 8) × (c.args.s.j < 8) × (c.args.s.k < 8)
 eight c = eight-at c.args.t (long c) c.args.s c.requires

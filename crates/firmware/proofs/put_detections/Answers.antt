@@ -9,10 +9,11 @@ use Rattle.little_endian.proofs.Round.{length-put}
 use Rattle.firmware.specs.Firmware.{detection_bytes, detection_size}
 use Rattle.firmware.proofs.Bytes.{length_detection, whole_is}
 use Rattle.firmware.proofs.put_detections.Goals.{Start}
+use borrow.Author.Rules.{rules}
 use Rattle.firmware.proofs.put_detections.Goals as goal
 
 long : (c : Start) → length c.args.t.at ≡ 3
-long c = c.well_formed.1.0.1.1.1.0.1.0.1
+long c = search rules
 
 pub overflow_cast-t : goal.overflow_cast-t
 overflow_cast-t c = omega arith

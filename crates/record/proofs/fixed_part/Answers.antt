@@ -1,5 +1,5 @@
 -- `record::fixed_part` meets its contract. Assumes nothing.
-use Rattle.std.proofs.Common.{refl}
+use Rattle.std.proofs.Common.{refl, rules}
 use Rattle.record.specs.Record.{fixed_part, lookup}
 use Rattle.record.proofs.FixedParts.{listed, not_listed}
 use Rattle.record.proofs.fixed_part.Goals as goal
@@ -145,4 +145,4 @@ unfolding fixed_part lookup
 returns-in-96 c = listed _ 96 _ c.in-96.is refl
 
 pub returns-in_default : goal.returns-in_default
-returns-in_default c = not_listed _ c.in_default.in_default-own.rest
+returns-in_default c = not_listed c.args.function (search rules)

@@ -28,5 +28,4 @@ returns-then-number-ne0-2 c =
 
 pub returns : goal.returns
 returns c =
-    let i = (goal.at.returns c).Else-number-ne0-2 in
     c.check_denoised.ensures ∙ denoised_decides _ _ _ _ _ _ _ _ _ (passed_1 (goal.at.returns c).Else-number-ne0) (passed_2 (goal.at.returns c).Else-number-ne0-2)

@@ -36,7 +36,7 @@ level_by-requires c =
       record { wide = p.0; high = p.1; col = l; row = p.2; all = p.3 },
       record { wide = p.0; high = p.1; col = l; row = p.2; all = p.4 },
       record { wide = p.0; high = p.1; col = l; row = p.2; all = p.5 },
-      omega (arith, c.flags-2-1.given, p.0),
+      omega (arith, p.0),
       rw (← c.begins.ensures, ← c.ends.ensures) c.flag_columns.ensures,
     )
 

@@ -5,25 +5,25 @@ use Rattle.lists.proofs.Numbers.{mean_small}
 use Rattle.blocks.specs.Blocks.{block_at, blocks_on}
 use Rattle.blocks.proofs.Grids.{place, block_within, block_size}
 use Rattle.blocks.proofs.Measures.{values_in}
-use Rattle.blocks.proofs.stats.values_of.Goals.{After-lesser-d, After-shared_slice_known-1}
+use Rattle.blocks.proofs.stats.values_of.Goals.{After-lesser-d, Start}
 use Rattle.blocks.proofs.stats.values_of.Goals as goal
 
 -- the place of the block
-here : (c : After-shared_slice_known-1) → let a = c.args in
+here : (c : Start) → let a = c.args in
     (a.i % blocks_on a.w * 8 ≤ 4096) × (a.i / blocks_on a.w * 8 ≤ 4096)
 here c = let p = c.requires in omega (arith, place _ _ _ p.2)
 
 pub overflow_mul-a : goal.overflow_mul-a
-overflow_mul-a c = omega (arith, here c)
+overflow_mul-a c = omega (arith, here (goal.at.overflow_mul-a c).Start)
 
 pub overflow_mul-c : goal.overflow_mul-c
-overflow_mul-c c = omega (arith, here c)
+overflow_mul-c c = omega (arith, here (goal.at.overflow_mul-c c).Start)
 
 pub overflow_add-a : goal.overflow_add-a
-overflow_add-a c = omega (arith, here c)
+overflow_add-a c = omega (arith, here (goal.at.overflow_add-a c).Start)
 
 pub overflow_add-c : goal.overflow_add-c
-overflow_add-c c = omega (arith, here (goal.at.overflow_add-c c).After-shared_slice_known-1)
+overflow_add-c c = omega (arith, here (goal.at.overflow_add-c c).Start)
 
 pub rect_stats-t-requires : goal.rect_stats-t-requires
 rect_stats-t-requires c =

@@ -3,10 +3,11 @@ use Rattle.finders.specs.Held.{within}
 use Rattle.finders.specs.Search.{max_finders}
 use Rattle.finders.proofs.Places.{first_here, first_next, first-none}
 use Rattle.finders.proofs.held.first_within.Goals.{Start}
+use borrow.Author.Rules.{rules}
 use Rattle.finders.proofs.held.first_within.Goals as goal
 
 long : (c : Start) → length c.args.t.table ≡ max_finders
-long c = c.well_formed.0.1.1.1.0.1.0.1
+long c = search rules
 
 pub offset_bounds-t-i : goal.offset_bounds-t-i
 offset_bounds-t-i c = omega arith

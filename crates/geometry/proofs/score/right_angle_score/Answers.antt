@@ -28,17 +28,14 @@ returns-then-cos c = out_angle _ _ (cosine (goal.at.returns-then-cos c).After-ab
 
 pub returns-then-ratio : goal.returns-then-ratio
 returns-then-ratio c =
-    let a = (goal.at.returns-then-ratio c).After-abs32-cos in
     out_ratio _ _ _ (cosine (goal.at.returns-then-ratio c).After-abs32-cos) (ratio (goal.at.returns-then-ratio c).After-max32-ratio) (edge (goal.at.returns-then-ratio c).Else-n2) c.if-cos.false c.if-ratio.true
 
 pub returns-then-score : goal.returns-then-score
 returns-then-score c =
     let m = (goal.at.returns-then-score c).After-max32-ratio in
-    let a = (goal.at.returns-then-score c).After-abs32-cos in
     out_number _ _ _ (cosine (goal.at.returns-then-score c).After-abs32-cos) (ratio (goal.at.returns-then-score c).After-max32-ratio) (edge (goal.at.returns-then-score c).Else-n2) m.if-cos.false _ refl c.if-ratio.false c.if-score.true
 
 pub returns : goal.returns
 returns c =
     let m = (goal.at.returns c).After-max32-ratio in
-    let a = (goal.at.returns c).After-abs32-cos in
     scored _ _ _ (cosine (goal.at.returns c).After-abs32-cos) (ratio (goal.at.returns c).After-max32-ratio) (edge (goal.at.returns c).Else-n2) m.if-cos.false _ refl c.if-ratio.false c.if-score.false

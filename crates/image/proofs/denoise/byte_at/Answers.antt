@@ -12,9 +12,9 @@ pub returns-then-bits-i : goal.returns-then-bits-i
 returns-then-bits-i c = sym (past_byte _ _ _ c.if-i-pad.false c.if-bits-i.true)
 
 pub overflow_cast-result : goal.overflow_cast-result
-overflow_cast-result c = let a = c.args in omega (arith, c.shared_slice_known-1.given (a.i - a.pad))
+overflow_cast-result c = let a = c.args in omega (arith, c.type_inv.bits (a.i - a.pad))
 
 pub returns : goal.returns
 returns c =
     let a = c.args in
-    sym (inner_byte _ _ _ c.if-i-pad.false (omega (arith, c.shared_slice_known-1.given (a.i - a.pad))))
+    sym (inner_byte _ _ _ c.if-i-pad.false (omega (arith, c.type_inv.bits (a.i - a.pad))))

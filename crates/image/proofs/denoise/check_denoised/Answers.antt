@@ -28,19 +28,14 @@ returns-then-large_side c = simp (passed_1 (goal.at.returns-then-large_side c).E
 pub returns-then-short_bits : goal.returns-then-short_bits
 unfolding denoised_refusal
 returns-then-short_bits c =
-    let c2 = (goal.at.returns-then-short_bits c).Else-large_side in
     simp (passed_1 (goal.at.returns-then-short_bits c).Else-zero_side, passed_2 (goal.at.returns-then-short_bits c).Else-large_side, sym c.short_bits.ensures ∙ c.if-short_bits.true)
 
 pub returns-then-short_bits-2 : goal.returns-then-short_bits-2
 unfolding denoised_refusal
 returns-then-short_bits-2 c =
-    let c3 = (goal.at.returns-then-short_bits-2 c).Else-short_bits in
-    let c2 = (goal.at.returns-then-short_bits-2 c).Else-large_side in
     simp (passed_1 (goal.at.returns-then-short_bits-2 c).Else-zero_side, passed_2 (goal.at.returns-then-short_bits-2 c).Else-large_side, passed_3 (goal.at.returns-then-short_bits-2 c).Else-short_bits, sym c.short_bits-2.ensures ∙ c.if-short_bits-2.true)
 
 pub returns : goal.returns
 unfolding denoised_refusal
 returns c =
-    let c3 = (goal.at.returns c).Else-short_bits in
-    let c2 = (goal.at.returns c).Else-large_side in
     simp (passed_1 (goal.at.returns c).Else-zero_side, passed_2 (goal.at.returns c).Else-large_side, passed_3 (goal.at.returns c).Else-short_bits, sym c.short_bits-2.ensures ∙ c.if-short_bits-2.false)

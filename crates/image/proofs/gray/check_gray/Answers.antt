@@ -51,7 +51,7 @@ returns-then-large_side c = simp (passed_1 (goal.at.returns-then-large_side c).E
 
 pub returns-in_default : goal.returns-in_default
 unfolding gray_refusal
-returns-in_default c = let c2 = (goal.at.returns-in_default c).Else-large_side in simp (passed_1 (goal.at.returns-in_default c).Else-zero_side, passed_2 (goal.at.returns-in_default c).Else-large_side, refused_3 c)
+returns-in_default c = simp (passed_1 (goal.at.returns-in_default c).Else-zero_side, passed_2 (goal.at.returns-in_default c).Else-large_side, refused_3 c)
 
 pub short_picture-requires : goal.short_picture-requires
 short_picture-requires c =
@@ -61,8 +61,6 @@ short_picture-requires c =
 pub returns-then-short_picture : goal.returns-then-short_picture
 unfolding gray_refusal
 returns-then-short_picture c =
-    let c3 = (goal.at.returns-then-short_picture c).In-Is in
-    let c2 = (goal.at.returns-then-short_picture c).Else-large_side in
     simp (passed_1 (goal.at.returns-then-short_picture c).Else-zero_side, passed_2 (goal.at.returns-then-short_picture c).Else-large_side, passed_3 (goal.at.returns-then-short_picture c).In-Is, sym (checked_4 (goal.at.returns-then-short_picture c).After-short_picture) ∙ c.if-short_picture.true)
 
 pub overflow_mul-width : goal.overflow_mul-width
@@ -75,13 +73,9 @@ overflow_mul-width c =
 pub returns-then-room-width : goal.returns-then-room-width
 unfolding gray_refusal
 returns-then-room-width c =
-    let c3 = (goal.at.returns-then-room-width c).In-Is in
-    let c2 = (goal.at.returns-then-room-width c).Else-large_side in
     simp (passed_1 (goal.at.returns-then-room-width c).Else-zero_side, passed_2 (goal.at.returns-then-room-width c).Else-large_side, passed_3 (goal.at.returns-then-room-width c).In-Is, sym (checked_4 (goal.at.returns-then-room-width c).After-short_picture) ∙ c.if-short_picture.false, lt-ltb _ _ c.if-room-width.true)
 
 pub returns : goal.returns
 unfolding gray_refusal
 returns c =
-    let c3 = (goal.at.returns c).In-Is in
-    let c2 = (goal.at.returns c).Else-large_side in
     simp (passed_1 (goal.at.returns c).Else-zero_side, passed_2 (goal.at.returns c).Else-large_side, passed_3 (goal.at.returns c).In-Is, sym (checked_4 (goal.at.returns c).After-short_picture) ∙ c.if-short_picture.false, le-ltb _ _ c.if-room-width.false)

@@ -7,10 +7,11 @@ use Rattle.little_endian.proofs.Round.{length-put}
 use Rattle.listing_text.specs.Listing.{detection_line}
 use Rattle.listing_text.proofs.LineLaws.{lines_none, lines_next, lines_counted, lines_all}
 use Rattle.listing_text.proofs.lines.put_detections.Goals.{Start}
+use borrow.Author.Rules.{rules}
 use Rattle.listing_text.proofs.lines.put_detections.Goals as goal
 
 long : (c : Start) → length c.args.t.at ≡ 3
-long c = c.well_formed.1.1.0.1.1.1.0.1.0.1
+long c = search rules
 
 pub loop-i-init : goal.loop-i-init
 loop-i-init c =

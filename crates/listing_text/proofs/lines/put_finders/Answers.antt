@@ -8,10 +8,11 @@ use Rattle.finders.specs.Search.{max_finders}
 use Rattle.listing_text.specs.Listing.{finder_line}
 use Rattle.listing_text.proofs.LineLaws.{lines_none, lines_next, lines_counted, lines_all}
 use Rattle.listing_text.proofs.lines.put_finders.Goals.{Start}
+use borrow.Author.Rules.{rules}
 use Rattle.listing_text.proofs.lines.put_finders.Goals as goal
 
 long : (c : Start) → length c.args.t.table ≡ max_finders
-long c = c.well_formed.1.1.0.1.1.1.0.1.0.1
+long c = search rules
 
 pub loop-i-init : goal.loop-i-init
 loop-i-init c =

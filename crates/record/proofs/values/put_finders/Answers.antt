@@ -8,10 +8,11 @@ use Rattle.firmware.proofs.Bytes.{length_finder}
 use Rattle.record.proofs.Parts.{held_all, finders_are, finders_end}
 use Rattle.firmware.specs.Firmware.{finder_bytes}
 use Rattle.record.proofs.values.put_finders.Goals.{Start}
+use borrow.Author.Rules.{rules}
 use Rattle.record.proofs.values.put_finders.Goals as goal
 
 long : (c : Start) → length c.args.t.table ≡ 128
-long c = c.well_formed.1.1.0.1.1.1.0.1.0.1
+long c = search rules
 
 pub overflow_cast-count : goal.overflow_cast-count
 overflow_cast-count c = omega arith

@@ -6,10 +6,11 @@ use Rattle.little_endian.proofs.Round.{length-put}
 use Rattle.record.specs.Record.{grade_bytes}
 use Rattle.record.proofs.Parts.{length_grade}
 use Rattle.record.proofs.values.put_grades.Goals.{Start}
+use borrow.Author.Rules.{rules}
 use Rattle.record.proofs.values.put_grades.Goals as goal
 
 long : (c : Start) → length c.args.t.at ≡ 3
-long c = c.well_formed.1.1.0.1.1.1.0.1.0.1
+long c = search rules
 
 pub loop-k-init : goal.loop-k-init
 unfolding flat_map put

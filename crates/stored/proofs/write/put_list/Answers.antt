@@ -8,12 +8,13 @@ use Rattle.finders.specs.Search.{max_finders}
 use Rattle.finders.specs.Answer.{held_in}
 use Rattle.stored.proofs.Bytes.{stored_is}
 use Rattle.stored.proofs.write.put_list.Goals.{Start}
+use borrow.Author.Rules.{rules}
 use Rattle.stored.proofs.write.put_list.Goals as goal
 
 held_length : (s : Start) → s.args.t.count ≡ length (held_in s.args.t)
 held_length s =
     let t = s.args.t in
-    let n : length t.table ≡ max_finders = s.well_formed.1.0.1.1.1.0.1.0.1 in
+    let n : length t.table ≡ max_finders = search rules in
     let l : t.count ≤ length t.table = omega (arith, s.requires.0) in
     sym (length-take-le t.count t.table l)
 

@@ -10,10 +10,11 @@ use Rattle.finders.specs.Search.{max_finders}
 use Rattle.stored.specs.Stored.{size_bytes}
 use Rattle.stored.proofs.Bytes.{length_size}
 use Rattle.stored.proofs.write.put_sizes.Goals.{Start}
+use borrow.Author.Rules.{rules}
 use Rattle.stored.proofs.write.put_sizes.Goals as goal
 
 long : (c : Start) → length c.args.t.table ≡ max_finders
-long c = c.well_formed.1.0.1.1.1.0.1.0.1
+long c = search rules
 
 pub loop-k-init : goal.loop-k-init
 unfolding flat_map put
