@@ -1,11 +1,11 @@
 // Runs along a line of a bit picture: pixels start, start + stride, start + 2 × stride and so on, as a row or a column has them.
-ghost use Rattle.std.specs.Prelude.{◌≡◌, ◌-◌, ◌≤◌, min};
+ghost use Rattle.std.specs.Prelude.{◌≡◌, ◌-◌, ◌≤◌};
 ghost use Rattle.binary.specs.Line.{pixel, run, run_back, end_by, limited_before, limited_after};
 
 use super::bit_of;
 
 // How a run ended: at a pixel of the other colour, at the picture's edge, or at its limit.
-#[derive(Clone, Copy)]
+#[derive(Clone, Copy, PartialEq, Eq)]
 pub enum End {
     Change,
     Edge,
@@ -32,14 +32,12 @@ pub fn run_on(bits: &[u8], start: u32, stride: u32, from: u16, left: u16, want: 
     ensures run { result ≡ run want (pixel bits.now start stride) from left }
     ensures most { result ≤ left }
 {
-    let mut n: u16 = 0;
-    while n < left {
+    for n in 0..left {
         if dark_on(bits, start, stride, from as u32 + n as u32) != want {
             return n;
         }
-        n += 1;
     }
-    n
+    left
 }
 
 // The same before pixel `from`, the nearest first.
@@ -47,31 +45,15 @@ pub fn run_back(bits: &[u8], start: u32, stride: u32, from: u16, left: u16, want
     ensures run { result ≡ run_back want (pixel bits.now start stride) from left }
     ensures most { (result ≤ left) × (result ≤ from) }
 {
-    let mut n: u16 = 0;
-    while n < left {
+    for n in 0..left {
         if from == n {
             return n;
         }
         if dark_on(bits, start, stride, (from - n - 1) as u32) != want {
             return n;
         }
-        n += 1;
     }
-    n
-}
-
-// So many pixels, no more than the limit.
-fn capped(limit: u64, n: u16) -> u16
-    ensures { result ≡ min limit n }
-{
-    if limit <= n as u64 { limit as u16 } else { n }
-}
-
-// The pixels of a line from pixel `from` on.
-fn pixels_from(len: u16, from: u16) -> u16
-    ensures { result ≡ len - from }
-{
-    if from < len { len - from } else { 0 }
+    left
 }
 
 // How a run of the colour `want` ended that the pixel `next` follows.
@@ -98,7 +80,7 @@ pub fn limited_on(
     ensures run { result ≡ limited_after want (pixel bits.now start stride) len limit from }
     ensures most { result.count ≤ len - from }
 {
-    let most = capped(limit, pixels_from(len, from));
+    let most = limit.min(len.saturating_sub(from) as u64) as u16;
     let count = run_on(bits, start, stride, from, most, want);
     if count < most {
         return Run {
@@ -122,7 +104,7 @@ pub fn limited_back(bits: &[u8], start: u32, stride: u32, from: u16, limit: u64,
     ensures run { result ≡ limited_before want (pixel bits.now start stride) limit from }
     ensures most { result.count ≤ from }
 {
-    let most = capped(limit, from);
+    let most = limit.min(from as u64) as u16;
     let count = run_back(bits, start, stride, from, most, want);
     if count < most {
         return Run {

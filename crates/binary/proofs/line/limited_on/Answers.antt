@@ -5,21 +5,21 @@ use Rattle.binary.proofs.line.limited_on.Goals as goal
 
 pub returns-then-count-most : goal.returns-then-count-most
 returns-then-count-most c =
-    let l = c.pixels_from.ensures in
-    let m = c.capped-most.ensures in
+    let l = c.saturating_sub.ensures in
+    let m = c.min-most.ensures in
     let r = c.run_on-count.ensures in
     record { run = at_change _ _ _ _ _ _ _ _ l m r.run (omega (arith, c.if-count-most.true)); most = omega (arith, l, m, r.most) }
 
 pub returns-then-len-next : goal.returns-then-len-next
 returns-then-len-next c =
-    let l = c.pixels_from.ensures in
-    let m = c.capped-most.ensures in
+    let l = c.saturating_sub.ensures in
+    let m = c.min-most.ensures in
     let r = c.run_on-count.ensures in
     record { run = at_edge _ _ _ _ _ _ _ _ l m r.run (omega (arith, c.if-len-next.true)); most = omega (arith, l, m, r.most) }
 
 pub returns : goal.returns
 returns c =
-    let l = c.pixels_from.ensures in
-    let m = c.capped-most.ensures in
+    let l = c.saturating_sub.ensures in
+    let m = c.min-most.ensures in
     let r = c.run_on-count.ensures in
     record { run = at-pixel _ _ _ _ _ _ _ _ l m r.run (omega (arith, c.if-len-next.false)) _ c.dark_on.ensures _ c.end_by-end.ensures; most = omega (arith, l, m, r.most) }

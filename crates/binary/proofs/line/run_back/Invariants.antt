@@ -5,7 +5,4 @@ use Rattle.binary.specs.Line.{pixel, run_back}
 use Rattle.binary.proofs.line.run_back.Given as goal
 
 abbrev pub invariant-loop-n : goal.invariant-loop-n
-invariant-loop-n l = (l.n ≤ l.left) × (l.n ≤ l.from) × (run_back l.want (pixel l.bits l.start l.stride) l.from l.left ≡ l.n + run_back l.want (pixel l.bits l.start l.stride) (l.from - l.n) (l.left - l.n))
-
-abbrev pub decreases-loop-n : goal.decreases-loop-n
-decreases-loop-n l = l.left - l.n
+invariant-loop-n l = (l.n ≤ l.from) × (run_back l.want (pixel l.bits l.start l.stride) l.from l.left ≡ l.n + run_back l.want (pixel l.bits l.start l.stride) (l.from - l.n) (l.left - l.n))

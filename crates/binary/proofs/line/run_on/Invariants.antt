@@ -1,11 +1,8 @@
 -- `binary::line::run_on` meets its contract. Assumes nothing.
-use Prim.Native.Nat.{◌+◌, ◌-◌, ◌≤◌}
+use Prim.Native.Nat.{◌+◌, ◌-◌}
 use mathlib.Core.Path.{◌≡◌}
 use Rattle.binary.specs.Line.{pixel, run}
 use Rattle.binary.proofs.line.run_on.Given as goal
 
 abbrev pub invariant-loop-n : goal.invariant-loop-n
-invariant-loop-n l = (l.n ≤ l.left) × (run l.want (pixel l.bits l.start l.stride) l.from l.left ≡ l.n + run l.want (pixel l.bits l.start l.stride) (l.from + l.n) (l.left - l.n))
-
-abbrev pub decreases-loop-n : goal.decreases-loop-n
-decreases-loop-n l = l.left - l.n
+invariant-loop-n l = run l.want (pixel l.bits l.start l.stride) l.from l.left ≡ l.n + run l.want (pixel l.bits l.start l.stride) (l.from + l.n) (l.left - l.n)
