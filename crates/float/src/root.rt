@@ -13,9 +13,7 @@ fn isqrt(n: u64) -> u64
     ensures { (result * result ≤ n) × (n < (result + 1) * (result + 1)) }
 {
     let mut r: u64 = 0;
-    let mut j: u64 = 25;
-    while 0 < j {
-        j -= 1;
+    for j in (0u32..25).rev() {
         let t = r + (1u64 << j);
         if t * t <= n {
             r = t;

@@ -3,39 +3,16 @@
 // cases were run and how many answers differ, and before that each line that differs with the answer given here.
 #![tactic(auto)]
 
-ghost use Rattle.std.specs.Prelude.{◌+◌, ◌<◌, ◌≤◌};
-
-#[derive(Drop)]
-enum Case {
-    Right,
-    Wrong,
-    End,
-}
-
 #[derive(Drop)]
 struct Tally {
     cases: u64,
     wrong: u64,
 }
 
-fn digit(c: u8) -> u64
-    ensures { result < 16 }
-{
-    let d = (c % 16) as u64;
-    if c < b'a' { d } else { d % 7 + 9 }
-}
-
-// The number that sixteen hexadecimal digits are.
-fn hex(line: &[u8; 36], from: usize) -> u64
-    requires { from + 16 ≤ 36 }
-{
-    let mut n: u64 = 0;
-    let mut i: usize = 0;
-    while i < 16 {
-        n = n % 0x1000_0000_0000_0000 * 16 + digit(line[from + i]);
-        i += 1;
-    }
-    n
+// The number that the hexadecimal digits are, 0 where they are none.
+fn hex(digits: &[u8]) -> u64 {
+    let text = str::from_utf8(digits).unwrap_or("");
+    u64::from_str_radix(text, 16).unwrap_or(0)
 }
 
 // The f32 whose pattern is the input's upper or lower half.
@@ -57,7 +34,7 @@ fn pattern(x: f32) -> u64 {
 
 // The pattern of n as an f64.
 fn whole(n: i32) -> u64 {
-    float::bits64(std::num::nearest_i64_to_f64(n as i64))
+    float::bits64(std::num::nearest_i64_to_f64(i64::from(n)))
 }
 
 // What the function f gives here. A pattern is tried on a quotient, and a float made of a pattern by what the processor makes of it.
@@ -79,49 +56,35 @@ fn answer(f: u8, n: u64) -> u64 {
     }
 }
 
-// Reads one line, and runs it as a case of the function f.
-fn one_case(f: u8) -> Case {
+// Reads one line, and runs it as a case of the function f: whether the answer is right, or nothing where the input has ended.
+fn one_case(f: u8) -> Option<bool> {
     let mut line = [0u8; 36];
     if io::read_full(0, &mut line) < 36 {
-        return Case::End;
+        return None;
     }
-    let given = answer(f, hex(&line, 2));
-    if line[0] == f {
-        if given == hex(&line, 19) {
-            return Case::Right;
-        }
+    let given = answer(f, hex(&line[2..18]));
+    let right = line[0] == f && given == hex(&line[19..35]);
+    if !right {
+        io::write_all(1, &line);
+        io::print_hex(1, given, 16);
+        io::write_all(1, b"\n");
     }
-    io::write_all(1, &line);
-    io::print_hex(1, given, 16);
-    io::write_all(1, b"\n");
-    Case::Wrong
+    Some(right)
 }
 
 fn replay(f: u8) -> Tally {
-    let mut cases: u64 = 0;
-    let mut wrong: u64 = 0;
-    while cases < 2048 {
-        let c = one_case(f);
-        if let Case::End = c {
-            return Tally {
-                cases: cases,
-                wrong: wrong,
-            };
-        }
-        cases += 1;
-        if let Case::Wrong = c {
-            wrong += 1;
-        }
+    let mut tally = Tally { cases: 0, wrong: 0 };
+    for _ in 0..2048u64 {
+        let Some(right) = one_case(f) else { break };
+        tally.cases += 1;
+        tally.wrong += !right as u64;
     }
-    Tally {
-        cases: cases,
-        wrong: wrong,
-    }
+    tally
 }
 
-fn report(name: &[u8], f: u8) {
+fn report(name: &str, f: u8) {
     let t = replay(f);
-    io::write_all(1, name);
+    io::write_all(1, name.as_bytes());
     io::write_all(1, b" ");
     io::print_decimal(1, t.cases);
     io::write_all(1, b" ");
@@ -130,17 +93,21 @@ fn report(name: &[u8], f: u8) {
 }
 
 fn main() {
-    report(b"bits32", b'1');
-    report(b"bits64", b'2');
-    report(b"of_bits32", b'3');
-    report(b"of_bits64", b'4');
-    report(b"abs32", b'5');
-    report(b"abs64", b'6');
-    report(b"max32", b'7');
-    report(b"min32", b'8');
-    report(b"to_u32", b'9');
-    report(b"to_i32", b'a');
-    report(b"round32", b'b');
-    report(b"narrow", b'c');
-    report(b"sqrt32", b'd');
+    for (name, f) in [
+        ("bits32", b'1'),
+        ("bits64", b'2'),
+        ("of_bits32", b'3'),
+        ("of_bits64", b'4'),
+        ("abs32", b'5'),
+        ("abs64", b'6'),
+        ("max32", b'7'),
+        ("min32", b'8'),
+        ("to_u32", b'9'),
+        ("to_i32", b'a'),
+        ("round32", b'b'),
+        ("narrow", b'c'),
+        ("sqrt32", b'd'),
+    ] {
+        report(name, f);
+    }
 }

@@ -3,7 +3,4 @@ use Prim.Native.Nat.{◌+◌, ◌*◌, ◌^◌, ◌≤◌, ◌<◌}
 use Rattle.float.proofs.root.isqrt.Given as goal
 
 abbrev pub invariant-loop-j : goal.invariant-loop-j
-invariant-loop-j l = (l.r * l.r ≤ l.n) × (l.n < (l.r + 2 ^ l.j) * (l.r + 2 ^ l.j)) × (l.r + 2 ^ l.j ≤ 2 ^ 25) × (l.j ≤ 25)
-
-abbrev pub decreases-loop-j : goal.decreases-loop-j
-decreases-loop-j l = l.j
+invariant-loop-j l = (l.r * l.r ≤ l.n) × (l.n < (l.r + 2 ^ l.j) * (l.r + 2 ^ l.j)) × (l.r + 2 ^ l.j ≤ 2 ^ 25)
