@@ -45,10 +45,8 @@ fn put_transform(out: &mut [u8], at: u32, t: Transform)
     requires { at < 2 ^ 16 }
     ensures { out.new ≡ put (transform_bytes t) at out.old }
 {
-    let mut k = 0;
-    while k < 8 {
+    for k in 0..8 {
         put64(out, at + 8 * k as u32, float::bits64(t.m[k]));
-        k += 1;
     }
 }
 
@@ -73,10 +71,8 @@ pub fn put_detections(out: &mut [u8], t: Detections)
     ensures { out.new ≡ put (firmware_bytes t) 0 out.old }
 {
     put8(out, 0, (t.count % 256) as u8);
-    let mut k = 0;
-    while k < 3 {
+    for k in 0..3 {
         let d = t.at[k];
         put_detection(out, 1 + 122 * k as u32, d);
-        k += 1;
     }
 }

@@ -29,13 +29,10 @@ pub fn read_finders(bytes: &[u8], count: u32) -> Finders
     ensures { result ≡ table_of (tabulate count (finder_at bytes.now count)) }
 {
     let mut out = no_finders();
-    let mut k = 0;
-    while k < count {
-        let f = finder_at(bytes, count, k);
+    for k in 0..count {
         let at = k as usize;
-        out.table[at] = f;
+        out.table[at] = finder_at(bytes, count, k);
         out.count = at + 1;
-        k += 1;
     }
     out
 }

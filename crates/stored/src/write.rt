@@ -30,9 +30,7 @@ fn put_places(out: &mut [u8], t: Finders)
     requires { t.count ≤ max_finders }
     ensures { out.new ≡ put (flat_map place_bytes (held_in t)) 6 out.old }
 {
-    let count = t.count;
-    let mut k = 0;
-    while k < count {
+    for k in 0..t.count {
         let f = t.table[k];
         put_pair(
             out,
@@ -40,7 +38,6 @@ fn put_places(out: &mut [u8], t: Finders)
             float::bits32(f.x),
             float::bits32(f.y),
         );
-        k += 1;
     }
 }
 
@@ -48,17 +45,14 @@ fn put_sizes(out: &mut [u8], t: Finders)
     requires { t.count ≤ max_finders }
     ensures { out.new ≡ put (flat_map size_bytes (held_in t)) (6 + 8 * t.count) out.old }
 {
-    let count = t.count;
-    let mut k = 0;
-    while k < count {
+    for k in 0..t.count {
         let f = t.table[k];
         put_pair(
             out,
-            6 + 8 * count as u32 + 8 * k as u32,
+            6 + 8 * t.count as u32 + 8 * k as u32,
             float::bits32(f.module),
             f.confirmations,
         );
-        k += 1;
     }
 }
 

@@ -1,13 +1,9 @@
 -- `stored::read::read_finders` meets its contract. Assumes nothing.
 use mathlib.Core.Path.{◌≡◌}
-use Prim.Native.Nat.{◌-◌, ◌≤◌}
 use Rattle.lists.specs.Lists.{tabulate}
 use Rattle.finders.specs.Answer.{table_of}
 use Rattle.stored.specs.Stored.{finder_at}
 use Rattle.stored.proofs.read.read_finders.Given as goal
 
 abbrev pub invariant-loop-k : goal.invariant-loop-k
-invariant-loop-k l = (l.k ≤ l.count) × (l.out ≡ table_of (tabulate l.k (finder_at l.bytes l.count)))
-
-abbrev pub decreases-loop-k : goal.decreases-loop-k
-decreases-loop-k l = l.count - l.k
+invariant-loop-k l = l.out ≡ table_of (tabulate l.k (finder_at l.bytes l.count))

@@ -1,14 +1,11 @@
 -- `stored::write::put_sizes` meets its contract. Assumes nothing.
 use mathlib.Core.Path.{◌≡◌}
-use Prim.Native.Nat.{◌+◌, ◌-◌, ◌*◌, ◌≤◌}
-use lib.ListN.{length, take}
+use Prim.Native.Nat.{◌+◌, ◌*◌}
+use lib.ListN.{take}
 use Rattle.lists.specs.Lists.{flat_map}
 use Rattle.little_endian.specs.Bytes.{put}
 use Rattle.stored.specs.Stored.{size_bytes}
 use Rattle.stored.proofs.write.put_sizes.Given as goal
 
 abbrev pub invariant-loop-k : goal.invariant-loop-k
-invariant-loop-k l = (l.k ≤ l.count) × (length l.out ≡ length l.initial.out) × (l.out ≡ put (flat_map size_bytes (take l.k l.t.table)) (6 + 8 * l.count) l.initial.out)
-
-abbrev pub decreases-loop-k : goal.decreases-loop-k
-decreases-loop-k l = l.count - l.k
+invariant-loop-k l = l.out ≡ put (flat_map size_bytes (take l.k l.t.table)) (6 + 8 * l.t.count) l.initial.out
