@@ -6,7 +6,7 @@ ghost use Rattle.rows.specs.Rows.{find_of};
 
 use binary::refusal::check_bits;
 use geometry::Marker;
-use search::nearest_marker;
+use search::Search;
 use transform::Point;
 use window::window_about;
 
@@ -37,7 +37,14 @@ pub fn find_alignment(
             marker: Marker::Missing,
         };
     }
-    let window = window_about(predicted, module, width as u16, height as u16);
-    let marker = nearest_marker(bits, width, height, window, predicted, module);
+    let search = Search {
+        bits,
+        width,
+        height,
+        window: window_about(predicted, module, width as u16, height as u16),
+        predicted,
+        module,
+    };
+    let marker = search.nearest_marker();
     Located { refusal: 0, marker }
 }

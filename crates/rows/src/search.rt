@@ -26,34 +26,18 @@ fn near(n: u16, module: f32) -> bool
     abs32(n as f32 - module) <= module * 0.7
 }
 
-fn matches_alignment(r: Runs, module: f32) -> bool
-    ensures { result ≡ matches_of «module» r }
-{
-    near(r.before, module) & near(r.dark, module) & near(r.after, module)
-}
+impl Runs {
+    fn matches_alignment(self, module: f32) -> bool
+        ensures { result ≡ matches_of «module» self }
+    {
+        near(self.before, module) & near(self.dark, module) & near(self.after, module)
+    }
 
-// The middle of the dark run.
-fn middle(r: Runs) -> f32
-    ensures { result ≡ middle_of r }
-{
-    r.start as f32 + r.dark as f32 / 2.0
-}
-
-// The runs about a dark pixel y of column x, each of `limit` pixels at most from there.
-fn column_runs(bits: &[u8], x: u32, width: u32, height: u16, y: u16, limit: u64) -> Runs
-    requires { (y < height) × (height ≤ 4096) }
-    ensures { result ≡ column_runs (pixel bits.now x width) height y limit }
-{
-    let up = run_back(bits, x, width, y, least(limit, y), true);
-    let below = y + 1;
-    let down = run_on(bits, x, width, below, least(limit, height - below), true);
-    let top = y - up;
-    let next = below + down;
-    Runs {
-        before: run_back(bits, x, width, top, least(limit, top), false),
-        dark: up + down + 1,
-        after: run_on(bits, x, width, next, least(limit, height - next), false),
-        start: top,
+    // The middle of the dark run.
+    fn middle(self) -> f32
+        ensures { result ≡ middle_of self }
+    {
+        self.start as f32 + self.dark as f32 / 2.0
     }
 }
 
@@ -62,59 +46,6 @@ fn limit_of(module: f32) -> u64
     ensures { result ≡ limit_of «module» }
 {
     to_u32(module * 3.0) as u64 + 3
-}
-
-// The marker with its centre at cx, confirmed down the column from row y.
-fn confirm_alignment_vertical(
-    bits: &[u8],
-    width: u32,
-    height: u32,
-    cx: f32,
-    y: u16,
-    module: f32,
-) -> Marker
-    requires { (y < height) × (height ≤ 4096) }
-    ensures { result ≡ confirm_of bits.now width height «module» y cx }
-{
-    let x = to_u32(cx);
-    if dark(bits, width, height, x, y as u32) {
-        let r = column_runs(bits, x, width, height as u16, y, limit_of(module));
-        if matches_alignment(r, module) {
-            return Marker::At(Point {
-                x: cx,
-                y: middle(r),
-            });
-        }
-    }
-    Marker::Missing
-}
-
-// The dark run that starts at pixel x of a row, and the light runs before it, which is known, and after it, within the columns from first up to end.
-fn row_runs(bits: &[u8], row: u32, first: u16, end: u16, x: u16, before: u16) -> Runs
-    requires { (first < x) × (x < end) × (before ≡ run_back false (pixel bits.now row 1) x (x - first)) }
-    ensures value { result ≡ row_runs (pixel bits.now row 1) first end x }
-    ensures dark_bound { (result.dark ≤ end - x) × (result.after ≤ end - (x + result.dark)) }
-{
-    let dark = run_on(bits, row, 1, x, end - x, true);
-    let next = x + dark;
-    let after = run_on(bits, row, 1, next, end - next, false);
-    Runs {
-        before,
-        dark,
-        after,
-        start: x,
-    }
-}
-
-// The marker whose runs along row y are r.
-fn shown(bits: &[u8], width: u32, height: u32, module: f32, y: u16, r: Runs) -> Marker
-    requires { (y < height) × (height ≤ 4096) }
-    ensures { result ≡ confirmed bits.now width height «module» y r }
-{
-    if matches_alignment(r, module) {
-        return confirm_alignment_vertical(bits, width, height, middle(r), y, module);
-    }
-    Marker::Missing
 }
 
 // The nearer to p of the nearest so far and what is seen; the earlier one where neither is nearer.
@@ -136,58 +67,123 @@ fn nearer(p: Point, best: Marker, seen: Marker) -> Marker
     }
 }
 
-// Row y, from dark run to dark run.
-fn search_row(
-    bits: &[u8],
-    width: u32,
-    height: u32,
-    first: u16,
-    end: u16,
-    p: Point,
-    module: f32,
-    best: Marker,
-    y: u16,
-) -> Marker
-    requires { (width ≤ 4096) × (height ≤ 4096) × (y < height) }
-    ensures { result ≡ row_nearest bits.now width height first end p «module» best y }
-{
-    if end <= first {
-        return best;
-    }
-    let row = y as u32 * width;
-    let left = first + run_on(bits, row, 1, first, end - first, true);
-    let mut light = run_on(bits, row, 1, left, end - left, false);
-    let mut x = left + light;
-    let mut b = best;
-    while x < end {
-        let r = row_runs(bits, row, first, end, x, light);
-        b = nearer(p, b, shown(bits, width, height, module, y, r));
-        light = r.after;
-        x = x + r.dark + r.after;
-    }
-    b
+// A picture and its part that is searched, with the place and the module that are predicted.
+#[derive(Clone, Copy)]
+pub struct Search<'a> {
+    pub bits: &'a [u8],
+    pub width: u32,
+    pub height: u32,
+    pub window: Window,
+    pub predicted: Point,
+    pub module: f32,
+    pub ghost narrow: { width ≤ 4096 },
+    pub ghost low: { height ≤ 4096 },
+    pub ghost inside: { window.bottom ≤ height },
 }
 
-// The marker nearest to p in the window.
-pub fn nearest_marker(
-    bits: &[u8],
-    width: u32,
-    height: u32,
-    window: Window,
-    p: Point,
-    module: f32,
-) -> Marker
-    requires { (width ≤ 4096) × (height ≤ 4096) × (window.bottom ≤ height) }
-    ensures { result ≡ nearest_of bits.now width height window p «module» }
-{
-    let first = window.first;
-    let end = window.end;
-    let bottom = window.bottom;
-    let mut b = Marker::Missing;
-    let mut y = window.top;
-    while y < bottom {
-        b = search_row(bits, width, height, first, end, p, module, b, y);
-        y += 1;
+impl<'a> Search<'a> {
+    // The runs about a dark pixel y of column x, each of three modules and 3 pixels at most from there.
+    fn column_runs(&self, x: u32, y: u16) -> Runs
+        requires { y < self.now.height }
+        ensures { let s = self.now in result ≡ column_runs (pixel s.bits.now x s.width) s.height y (limit_of s.«module») }
+    {
+        let bits = self.bits;
+        let width = self.width;
+        let height = self.height as u16;
+        let limit = limit_of(self.module);
+        let up = run_back(bits, x, width, y, least(limit, y), true);
+        let below = y + 1;
+        let down = run_on(bits, x, width, below, least(limit, height - below), true);
+        let top = y - up;
+        let next = below + down;
+        Runs {
+            before: run_back(bits, x, width, top, least(limit, top), false),
+            dark: up + down + 1,
+            after: run_on(bits, x, width, next, least(limit, height - next), false),
+            start: top,
+        }
     }
-    b
+
+    // The marker with its centre at cx, confirmed down the column from row y.
+    fn confirm_alignment_vertical(&self, cx: f32, y: u16) -> Marker
+        requires { y < self.now.height }
+        ensures { let s = self.now in result ≡ confirm_of s.bits.now s.width s.height s.«module» y cx }
+    {
+        let x = to_u32(cx);
+        if dark(self.bits, self.width, self.height, x, y as u32) {
+            let r = self.column_runs(x, y);
+            if r.matches_alignment(self.module) {
+                return Marker::At(Point {
+                    x: cx,
+                    y: r.middle(),
+                });
+            }
+        }
+        Marker::Missing
+    }
+
+    // The marker whose runs along row y are r.
+    fn shown(&self, y: u16, r: Runs) -> Marker
+        requires { y < self.now.height }
+        ensures { let s = self.now in result ≡ confirmed s.bits.now s.width s.height s.«module» y r }
+    {
+        if r.matches_alignment(self.module) {
+            return self.confirm_alignment_vertical(r.middle(), y);
+        }
+        Marker::Missing
+    }
+
+    // The dark run that starts at pixel x of a row, and the light runs before it, which is known, and after it, within the window's columns.
+    fn row_runs(&self, row: u32, x: u16, before: u16) -> Runs
+        requires { let s = self.now in (s.window.first < x) × (x < s.window.end) × (before ≡ run_back false (pixel s.bits.now row 1) x (x - s.window.first)) }
+        ensures value { let s = self.now in result ≡ row_runs (pixel s.bits.now row 1) s.window.first s.window.end x }
+        ensures dark_bound { let end = self.now.window.end in (result.dark ≤ end - x) × (result.after ≤ end - (x + result.dark)) }
+    {
+        let end = self.window.end;
+        let dark = run_on(self.bits, row, 1, x, end - x, true);
+        let next = x + dark;
+        let after = run_on(self.bits, row, 1, next, end - next, false);
+        Runs {
+            before,
+            dark,
+            after,
+            start: x,
+        }
+    }
+
+    // Row y, from dark run to dark run.
+    fn search_row(&self, best: Marker, y: u16) -> Marker
+        requires { y < self.now.height }
+        ensures { let s = self.now in result ≡ row_nearest s.bits.now s.width s.height s.window.first s.window.end s.predicted s.«module» best y }
+    {
+        let first = self.window.first;
+        let end = self.window.end;
+        if end <= first {
+            return best;
+        }
+        let row = y as u32 * self.width;
+        let left = first + run_on(self.bits, row, 1, first, end - first, true);
+        let mut light = run_on(self.bits, row, 1, left, end - left, false);
+        let mut x = left + light;
+        let mut nearest = best;
+        // A `while`, since a step is as long as the two runs that the pixels show.
+        while x < end {
+            let r = self.row_runs(row, x, light);
+            nearest = nearer(self.predicted, nearest, self.shown(y, r));
+            light = r.after;
+            x = x + r.dark + r.after;
+        }
+        nearest
+    }
+
+    // The marker nearest to the predicted place in the window.
+    pub fn nearest_marker(&self) -> Marker
+        ensures { let s = self.now in result ≡ nearest_of s.bits.now s.width s.height s.window s.predicted s.«module» }
+    {
+        let mut nearest = Marker::Missing;
+        for y in self.window.top..self.window.bottom {
+            nearest = self.search_row(nearest, y);
+        }
+        nearest
+    }
 }

@@ -20,15 +20,7 @@ pub fn least(a: u64, n: u16) -> u16
     ensures value { result ≡ min a n }
     ensures upper_bound { result ≤ n }
 {
-    if a < n as u64 { a as u16 } else { n }
-}
-
-// a - b, 0 at least and n at most.
-fn clipped(a: u64, b: u64, n: u16) -> u16
-    ensures value { result ≡ min (a - b) n }
-    ensures upper_bound { result ≤ n }
-{
-    if a < b { 0 } else { least(a - b, n) }
+    a.min(n as u64) as u16
 }
 
 // x as an i32, where it is positive.
@@ -36,8 +28,7 @@ fn ahead(x: f32) -> u64
     ensures value { result ≡ pos_part (to_signed 31 x) }
     ensures upper_bound { result < 2 ^ 31 }
 {
-    let n = to_u32(x) as u64;
-    if n < 0x7fff_ffff { n } else { 0x7fff_ffff }
+    to_u32(x).min(0x7fff_ffff) as u64
 }
 
 // How far below 0 it is, where it is negative.
@@ -45,15 +36,14 @@ fn behind(x: f32) -> u64
     ensures value { result ≡ neg_part (to_signed 31 x) }
     ensures upper_bound { result ≤ 2 ^ 31 }
 {
-    let n = to_u32(-x) as u64;
-    if n < 0x8000_0000 { n } else { 0x8000_0000 }
+    to_u32(-x).min(0x8000_0000) as u64
 }
 
 fn low_end(p: f32, r: u64, n: u16) -> u16
     requires { r < 2 ^ 31 }
     ensures { result ≡ low_end (to_signed 31 p) r n }
 {
-    clipped(ahead(p), behind(p) + r, n)
+    least(ahead(p).saturating_sub(behind(p) + r), n)
 }
 
 fn row_end(p: f32, r: u64, n: u16) -> u16
@@ -61,7 +51,7 @@ fn row_end(p: f32, r: u64, n: u16) -> u16
     ensures value { result ≡ row_end (to_signed 31 p) r n }
     ensures upper_bound { result ≤ n }
 {
-    clipped(ahead(p) + r + 1, behind(p), n)
+    least((ahead(p) + r + 1).saturating_sub(behind(p)), n)
 }
 
 fn column_end(p: f32, r: u64, n: u16) -> u16
@@ -70,7 +60,7 @@ fn column_end(p: f32, r: u64, n: u16) -> u16
 {
     let a = ahead(p) + r;
     let b = behind(p);
-    if a < b { n - 1 } else { clipped(a, b, n - 1) }
+    if a < b { n - 1 } else { least(a - b, n - 1) }
 }
 
 fn radius(module: f32) -> u64

@@ -22,12 +22,12 @@ overflow_cast-width c = omega (arith, sides c)
 pub overflow_cast-height : goal.overflow_cast-height
 overflow_cast-height c = omega (arith, sides c)
 
-pub window_about-window-requires : goal.window_about-window-requires
-window_about-window-requires c = (sides c).w_pos
+pub window_about-requires : goal.window_about-requires
+window_about-requires c = (sides c).w_pos
 
-pub nearest_marker-marker-requires : goal.nearest_marker-marker-requires
-nearest_marker-marker-requires c = let s = sides (goal.at.nearest_marker-marker-requires c).Else-refusal-ne0 in (s.w_most, s.h_most, c.window_about-window.ensures.bottom_le_height)
+pub invariant_of-search : goal.invariant_of-search
+invariant_of-search c = let s = sides (goal.at.invariant_of-search c).Else-refusal-ne0 in record { narrow = s.w_most; low = s.h_most; inside = c.window_about.ensures.bottom_le_height }
 
 pub returns : goal.returns
 unfolding find_of
-returns c = done _ _ _ _ c.if-refusal-ne0.false (c.number-refusal.ensures ∙ c.check_bits.ensures) (rw (← c.window_about-window.ensures.value) c.nearest_marker-marker.ensures)
+returns c = done _ _ _ _ c.if-refusal-ne0.false (c.number-refusal.ensures ∙ c.check_bits.ensures) (rw (← c.window_about.ensures.value) c.nearest_marker-marker.ensures)

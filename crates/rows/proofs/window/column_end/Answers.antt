@@ -9,4 +9,4 @@ returns-then-a-b c = rw (← c.ahead.ensures.value, ← c.behind-b.ensures.value
 
 pub returns-else-a-b : goal.returns-else-a-b
 unfolding column_end
-returns-else-a-b c = rw (← c.ahead.ensures.value, ← c.behind-b.ensures.value, le-ltb _ _ c.if-a-b.false) c.clipped.ensures.value
+returns-else-a-b c = rw (← c.ahead.ensures.value, ← c.behind-b.ensures.value, le-ltb _ _ c.if-a-b.false) c.least.ensures.value

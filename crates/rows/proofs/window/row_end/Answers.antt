@@ -5,4 +5,4 @@ use Rattle.rows.proofs.window.row_end.Goals as goal
 
 pub returns : goal.returns
 unfolding row_end
-returns c = record { value = rw (← c.ahead.ensures.value, ← c.behind.ensures.value) c.clipped.ensures.value; upper_bound = omega arith }
+returns c = record { value = rw (← c.ahead.ensures.value, ← c.behind.ensures.value, ← c.saturating_sub.ensures) c.least.ensures.value; upper_bound = omega arith }

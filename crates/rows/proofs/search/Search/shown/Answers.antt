@@ -1,6 +1,6 @@
--- `rows::search::shown` meets its contract. Assumes nothing.
+-- `rows::search::Search::shown` meets its contract. Assumes nothing.
 use Rattle.rows.specs.Rows.{confirmed}
-use Rattle.rows.proofs.search.shown.Goals as goal
+use Rattle.rows.proofs.search.Search.shown.Goals as goal
 
 pub returns-then-matches_alignment : goal.returns-then-matches_alignment
 unfolding confirmed

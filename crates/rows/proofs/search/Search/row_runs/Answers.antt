@@ -1,6 +1,6 @@
--- `rows::search::row_runs` meets its contract. Assumes nothing.
+-- `rows::search::Search::row_runs` meets its contract. Assumes nothing.
 use Rattle.rows.specs.Rows.{row_runs}
-use Rattle.rows.proofs.search.row_runs.Goals as goal
+use Rattle.rows.proofs.search.Search.row_runs.Goals as goal
 
 pub returns : goal.returns
 unfolding row_runs

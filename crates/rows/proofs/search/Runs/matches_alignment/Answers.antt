@@ -1,6 +1,6 @@
--- `rows::search::matches_alignment` meets its contract. Assumes nothing.
+-- `rows::search::Runs::matches_alignment` meets its contract. Assumes nothing.
 use Rattle.rows.specs.Rows.{matches_of}
-use Rattle.rows.proofs.search.matches_alignment.Goals as goal
+use Rattle.rows.proofs.search.Runs.matches_alignment.Goals as goal
 
 pub returns : goal.returns
 unfolding matches_of
