@@ -9,6 +9,7 @@ use Rattle.lists.specs.Lists.{Each, range, folded, flat_map}
 use Rattle.lists.proofs.Numbers.{mul_bound, row_within}
 use Rattle.lists.proofs.Folds.{folded-append, folded_map, length-count, each_range, each_of_map, each_flat_map}
 use Rattle.lcr_core.specs.Passed.{Sides}
+use Rattle.blocks.specs.declared.rect.Rect.{Rect}
 use Rattle.blocks.specs.Blocks.{cells, blocks_on, blocks_in}
 use Rattle.blocks.specs.Steps.{InRect}
 
@@ -53,33 +54,31 @@ place i (suc w) h l =
     let p : 0 < suc w = omega arith in (p, mod-lt i p, (div-lt_iff_lt-mul {k = suc w} {x = i} {y = h} p).1 l)
 
 -- the 3 × 3 neighbourhood lies within the grid
-pub near_within : (len i w h : ℕ) → i < h * w → w ≤ 512 → h ≤ 512 → h * w ≤ len
-    → InRect len w (i % w - 1) (min w (i % w + 1 + 1)) (i / w - 1) (min h (i / w + 1 + 1))
-near_within len i w h l wide high all =
-    let p = place i w h l in
+pub near_within : (len i w h : ℕ) (r : Rect) → i < h * w → w ≤ 512 → h ≤ 512 → h * w ≤ len
+    → (r.left ≡ i % w - 1) × (r.right ≡ min w (i % w + 1 + 1)) × (r.top ≡ i / w - 1) × (r.bottom ≡ min h (i / w + 1 + 1)) → InRect len w r
+near_within len i w h r l wide high all e =
     record {
-      left = omega arith;
-      top = omega arith;
       cols = omega arith;
       narrow = omega arith;
       low = omega arith;
       rows = omega arith;
-      all = omega (arith, mul-le-mul_right {m = min h (i / w + 1 + 1)} {n = h} w (omega arith));
+      all = omega (arith, mul-le-mul_right {m = r.bottom} {n = h} w (omega arith));
     }
 
--- the pixels of block number i lie within the picture
-pub block_within : (len w h i : ℕ) → Sides w h → w * h ≤ len → i < blocks_in w h
-    → InRect len w (i % blocks_on w * 8) (min w (i % blocks_on w * 8 + 8)) (i / blocks_on w * 8) (min h (i / blocks_on w * 8 + 8))
-block_within len w h i s all l =
-    let p = place i (blocks_on w) (blocks_on h) l in
+-- the bounds of the pixels of block number i of a picture of w × h pixels
+abbrev pub IsBlock : ℕ → ℕ → ℕ → Rect → Type 0
+IsBlock w h i r =
+    (r.left ≡ i % blocks_on w * 8) × (r.right ≡ min w (i % blocks_on w * 8 + 8)) × (r.top ≡ i / blocks_on w * 8) × (r.bottom ≡ min h (i / blocks_on w * 8 + 8))
+
+-- they lie within the picture
+pub block_within : (len w h i : ℕ) (r : Rect) → Sides w h → w * h ≤ len → IsBlock w h i r → InRect len w r
+block_within len w h i r s all e =
     record {
-      left = omega arith;
-      top = omega arith;
       cols = omega arith;
       narrow = omega arith;
       low = omega arith;
       rows = omega (arith, s.h_most);
-      all = omega (arith, mul-le-mul_right {m = min h (i / blocks_on w * 8 + 8)} {n = h} w (omega arith), mul_comm w h);
+      all = omega (arith, mul-le-mul_right {m = r.bottom} {n = h} w (omega arith), mul_comm w h);
     }
 
 -- and there are from 1 to 64 of them

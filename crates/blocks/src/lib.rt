@@ -8,9 +8,12 @@ ghost use Rattle.blocks.specs.Steps.{Passed};
 
 use lcr_core::Outcome;
 use marks::{edge_marks, near_marks};
+use picture::Picture;
 use stats::all_values;
 
 mod marks;
+mod picture;
+mod rect;
 mod stats;
 
 // Whether one of the five work slices is too short for n blocks.
@@ -88,9 +91,14 @@ fn values_checked(
     ensures edges_after { edges.new ≡ blocks_after 0 w h (edge_at gray.now w h) edges.old }
     ensures nears_after { nears.new ≡ blocks_after 0 w h (near_at gray.now w h) nears.old }
 {
-    let bw = (w + 7) / 8;
-    let bh = (h + 7) / 8;
-    all_values(gray, w, h, means, least, greatest);
+    let picture = Picture {
+        gray,
+        width: w,
+        height: h,
+    };
+    let bw = picture.columns();
+    let bh = picture.rows();
+    all_values(picture, means, least, greatest);
     edge_marks(least, greatest, bh * bw, edges);
     near_marks(least, greatest, bw, bh, nears);
 }

@@ -1,9 +1,10 @@
 // Edge marks and near marks.
-ghost use Rattle.std.specs.Prelude.{◌≡◌, ◌-◌, ◌*◌, ◌≤◌, ◌<◌, length};
+ghost use Rattle.std.specs.Prelude.{◌≡◌, ◌*◌, ◌≤◌, ◌<◌, length};
 ghost use Rattle.lists.specs.Lists.{filled};
 ghost use Rattle.blocks.specs.Blocks.{at, mark as mark_of, edge_of, near_of};
 
-use super::stats::{lesser, rect_stats};
+use super::rect::Rect;
+use super::stats::rect_stats;
 
 // The spread within a block, or within a block and its neighbours, that no mark needs.
 const MIN_DYNAMIC_RANGE: u32 = 24;
@@ -23,18 +24,9 @@ pub fn edge_marks(least: &[u8], greatest: &[u8], n: usize, edges: &mut [u8])
     requires { (n ≤ length least.now) × (n ≤ length greatest.now) × (n ≤ length edges.old) }
     ensures { edges.new ≡ filled n (edge_of (at least.now) (at greatest.now)) edges.old }
 {
-    let mut i = 0;
-    while i < n {
+    for i in 0..n {
         edges[i] = mark(least[i], greatest[i]);
-        i += 1;
     }
-}
-
-// Where a window of radius 1 about place p begins.
-fn one_before(p: usize) -> usize
-    ensures { result ≡ p - 1 }
-{
-    if p == 0 { 0 } else { p - 1 }
 }
 
 // The near mark of block number i.
@@ -42,14 +34,9 @@ fn near_mark(least: &[u8], greatest: &[u8], bw: usize, bh: usize, i: usize) -> u
     requires { (i < bh * bw) × (bw ≤ 512) × (bh ≤ 512) × (bh * bw ≤ length least.now) × (bh * bw ≤ length greatest.now) }
     ensures { result ≡ near_of (at least.now) (at greatest.now) bw bh i }
 {
-    let x = i % bw;
-    let y = i / bw;
-    let a = one_before(x);
-    let b = lesser(bw, x + 2);
-    let c = one_before(y);
-    let d = lesser(bh, y + 2);
-    let low = rect_stats(least, bw, a, b, c, d);
-    let high = rect_stats(greatest, bw, a, b, c, d);
+    let near = Rect::about(bw, bh, i % bw, i / bw, 1);
+    let low = rect_stats(least, bw, near);
+    let high = rect_stats(greatest, bw, near);
     mark(low.least, high.greatest)
 }
 
@@ -57,10 +44,7 @@ pub fn near_marks(least: &[u8], greatest: &[u8], bw: usize, bh: usize, nears: &m
     requires { (bw ≤ 512) × (bh ≤ 512) × (bh * bw ≤ length least.now) × (bh * bw ≤ length greatest.now) × (bh * bw ≤ length nears.old) }
     ensures { nears.new ≡ filled (bh * bw) (near_of (at least.now) (at greatest.now) bw bh) nears.old }
 {
-    let n = bh * bw;
-    let mut i = 0;
-    while i < n {
+    for i in 0..bh * bw {
         nears[i] = near_mark(least, greatest, bw, bh, i);
-        i += 1;
     }
 }

@@ -1,33 +1,17 @@
 // The sum, the least and the greatest of a rectangle of values, and the values of each block.
-ghost use Rattle.std.specs.Prelude.{◌≡◌, ◌+◌, ◌-◌, ◌*◌, ◌≤◌, ◌<◌, min, max, length};
+ghost use Rattle.std.specs.Prelude.{◌≡◌, ◌+◌, ◌-◌, ◌*◌, ◌≤◌, ◌<◌, length};
 ghost use Rattle.lists.specs.Lists.{range, folded, filled};
-ghost use Rattle.lcr_core.specs.Passed.{Sides};
-ghost use Rattle.blocks.specs.Blocks.{cells, blocks_in, mean_at, least_at, greatest_at};
-ghost use Rattle.blocks.specs.Steps.{with_value, cell_step, column_step, no_value, InRect};
+ghost use Rattle.blocks.specs.Blocks.{blocks_in, mean_at, least_at, greatest_at};
+ghost use Rattle.blocks.specs.Steps.{with_value, cell_step, column_step, no_value, cells_of, InRect};
+
+use super::picture::Picture;
+use super::rect::Rect;
 
 #[derive(Clone, Copy)]
 pub struct Stats {
     pub sum: u32,
     pub least: u8,
     pub greatest: u8,
-}
-
-pub fn lesser(a: usize, b: usize) -> usize
-    ensures { result ≡ min a b }
-{
-    if a < b { a } else { b }
-}
-
-fn least_byte(a: u8, b: u8) -> u8
-    ensures { result ≡ min a b }
-{
-    if a < b { a } else { b }
-}
-
-fn greatest_byte(a: u8, b: u8) -> u8
-    ensures { result ≡ max a b }
-{
-    if a < b { b } else { a }
 }
 
 // One value more.
@@ -37,8 +21,8 @@ fn with_value(t: Stats, v: u8) -> Stats
 {
     Stats {
         sum: t.sum + v as u32,
-        least: least_byte(t.least, v),
-        greatest: greatest_byte(t.greatest, v),
+        least: t.least.min(v),
+        greatest: t.greatest.max(v),
     }
 }
 
@@ -48,28 +32,24 @@ fn row_stats(s: &[u8], from: usize, a: usize, b: usize, t: Stats) -> Stats
     ensures { (result ≡ folded (column_step s.now from) t (range a b)) × (result.sum ≤ t.sum + 255 * (b - a)) }
 {
     let mut r = t;
-    let mut x = a;
-    while x < b {
+    for x in a..b {
         r = with_value(r, s[from + x]);
-        x += 1;
     }
     r
 }
 
-// Columns a to b of the rows c to d, of w values each.
-pub fn rect_stats(s: &[u8], w: usize, a: usize, b: usize, c: usize, d: usize) -> Stats
-    requires { InRect (length s.now) w a b c d }
-    ensures { (result ≡ folded (cell_step s.now) no_value (cells w (range a b) (range c d))) × (result.sum ≤ 255 * ((d - c) * (b - a))) }
+// The values in a rectangle of rows of w values.
+pub fn rect_stats(s: &[u8], w: usize, rect: Rect) -> Stats
+    requires { InRect (length s.now) w rect }
+    ensures { (result ≡ folded (cell_step s.now) no_value (cells_of w rect)) × (result.sum ≤ 255 * ((rect.bottom - rect.top) * (rect.right - rect.left))) }
 {
     let mut t = Stats {
         sum: 0,
         least: 255,
         greatest: 0,
     };
-    let mut y = c;
-    while y < d {
-        t = row_stats(s, y * w, a, b, t);
-        y += 1;
+    for y in rect.top..rect.bottom {
+        t = row_stats(s, y * w, rect.left, rect.right, t);
     }
     t
 }
@@ -83,46 +63,32 @@ pub struct Values {
 }
 
 // Those of block number i.
-fn values_of(gray: &[u8], w: usize, h: usize, i: usize) -> Values
-    requires { Sides w h × (w * h ≤ length gray.now) × (i < blocks_in w h) }
-    ensures { (result.mean ≡ mean_at gray.now w h i) × (result.least ≡ least_at gray.now w h i)
-        × (result.greatest ≡ greatest_at gray.now w h i) }
+fn values_of(picture: Picture, i: usize) -> Values
+    requires { i < blocks_in picture.width picture.height }
+    ensures { let p = picture.entry in (result.mean ≡ mean_at p.gray.now p.width p.height i) × (result.least ≡ least_at p.gray.now p.width p.height i)
+        × (result.greatest ≡ greatest_at p.gray.now p.width p.height i) }
 {
-    let bw = (w + 7) / 8;
-    let a = i % bw * 8;
-    let c = i / bw * 8;
-    let b = lesser(w, a + 8);
-    let d = lesser(h, c + 8);
-    let t = rect_stats(gray, w, a, b, c, d);
+    let block = picture.block(i);
+    let t = rect_stats(picture.gray, picture.width, block);
+    let size = (block.bottom - block.top) * (block.right - block.left);
     Values {
-        mean: (t.sum as usize / ((d - c) * (b - a))) as u8,
+        mean: (t.sum as usize / size) as u8,
         least: t.least,
         greatest: t.greatest,
     }
 }
 
 // Those of every block.
-pub fn all_values(
-    gray: &[u8],
-    w: usize,
-    h: usize,
-    means: &mut [u8],
-    least: &mut [u8],
-    greatest: &mut [u8],
-)
-    requires { Sides w h × (w * h ≤ length gray.now) × (blocks_in w h ≤ length means.old)
-        × (blocks_in w h ≤ length least.old) × (blocks_in w h ≤ length greatest.old) }
-    ensures means_after { means.new ≡ filled (blocks_in w h) (mean_at gray.now w h) means.old }
-    ensures least_after { least.new ≡ filled (blocks_in w h) (least_at gray.now w h) least.old }
-    ensures greatest_after { greatest.new ≡ filled (blocks_in w h) (greatest_at gray.now w h) greatest.old }
+pub fn all_values(picture: Picture, means: &mut [u8], least: &mut [u8], greatest: &mut [u8])
+    requires { let n = blocks_in picture.width picture.height in (n ≤ length means.old) × (n ≤ length least.old) × (n ≤ length greatest.old) }
+    ensures means_after { let p = picture.entry in means.new ≡ filled (blocks_in p.width p.height) (mean_at p.gray.now p.width p.height) means.old }
+    ensures least_after { let p = picture.entry in least.new ≡ filled (blocks_in p.width p.height) (least_at p.gray.now p.width p.height) least.old }
+    ensures greatest_after { let p = picture.entry in greatest.new ≡ filled (blocks_in p.width p.height) (greatest_at p.gray.now p.width p.height) greatest.old }
 {
-    let n = (h + 7) / 8 * ((w + 7) / 8);
-    let mut i = 0;
-    while i < n {
-        let v = values_of(gray, w, h, i);
+    for i in 0..picture.rows() * picture.columns() {
+        let v = values_of(picture, i);
         means[i] = v.mean;
         least[i] = v.least;
         greatest[i] = v.greatest;
-        i += 1;
     }
 }

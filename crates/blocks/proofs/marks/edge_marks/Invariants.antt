@@ -1,13 +1,8 @@
 -- `blocks::marks::edge_marks` meets its contract: the first i marks are written. Assumes nothing.
-use Prim.Native.Nat.{◌-◌, ◌≤◌}
 use mathlib.Core.Path.{◌≡◌}
-use lib.ListN.{length}
 use Rattle.lists.specs.Lists.{filled}
 use Rattle.blocks.specs.Blocks.{at, edge_of}
 use Rattle.blocks.proofs.marks.edge_marks.Given as goal
 
 abbrev pub invariant-loop-i : goal.invariant-loop-i
-invariant-loop-i l = (l.i ≤ l.n) × (length l.edges ≡ length l.initial.edges) × (l.edges ≡ filled l.i (edge_of (at l.least) (at l.greatest)) l.initial.edges)
-
-abbrev pub decreases-loop-i : goal.decreases-loop-i
-decreases-loop-i l = l.n - l.i
+invariant-loop-i l = l.edges ≡ filled l.i (edge_of (at l.least) (at l.greatest)) l.initial.edges

@@ -1,5 +1,5 @@
 use Prim.Native.Nat.{◌+◌, ◌-◌, ◌*◌, ◌≤◌}
-use mathlib.Core.Path.{◌≡◌, refl, sym, ◌∙◌}
+use mathlib.Core.Path.{◌≡◌, sym, ◌∙◌}
 use native.Mathlib.Omega.{arith}
 use lib.ListN.{length}
 use Rattle.lists.specs.Lists.{range}
@@ -11,19 +11,15 @@ use Rattle.blocks.proofs.stats.rect_stats.Goals.{In-loop-y}
 use Rattle.blocks.proofs.stats.rect_stats.Goals as goal
 
 -- in a turn, row y lies within the list, and few values were counted
-here : (k : In-loop-y) → let a = k.args in let y = k.loop-y.y in
-    (y * a.w + a.w ≤ length a.s.now) × ((y - a.c) * (a.b - a.a) + (a.b - a.a) ≤ 64) × (a.b ≤ a.w)
-here k =
-    let s = k in
-    let a = s.args in
-    let y = k.loop-y.y in (
-      omega (arith, s.requires.all, row_within y a.d a.w (omega arith)),
-      omega (arith, row_within (y - a.c) (a.d - a.c) (a.b - a.a) (omega arith), mul_bound (a.d - a.c) (a.b - a.a) 8 8 s.requires.low s.requires.narrow),
-      s.requires.cols,
+here : (c : In-loop-y) → let a = c.args in let r = a.rect in let y = c.loop-y.y in
+    (y * a.w + a.w ≤ length a.s.now) × ((y - r.top) * (r.right - r.left) + (r.right - r.left) ≤ 64)
+here c =
+    let a = c.args in
+    let r = a.rect in
+    let y = c.loop-y.y in (
+      omega (arith, c.requires.all, row_within y r.bottom a.w (omega arith)),
+      omega (arith, row_within (y - r.top) (r.bottom - r.top) (r.right - r.left) (omega arith), mul_bound (r.bottom - r.top) (r.right - r.left) 8 8 c.requires.low c.requires.narrow),
     )
-
-pub loop-y-init : goal.loop-y-init
-loop-y-init c = (omega arith, omega arith, refl, omega arith)
 
 pub overflow_mul-y : goal.overflow_mul-y
 overflow_mul-y c = let h = here c in omega arith
@@ -31,21 +27,14 @@ overflow_mul-y c = let h = here c in omega arith
 pub row_stats-t-requires : goal.row_stats-t-requires
 row_stats-t-requires c = let h = here c in omega arith
 
-pub overflow_add-y : goal.overflow_add-y
-overflow_add-y c = omega arith
-
-pub loop-y-smaller : goal.loop-y-smaller
-loop-y-smaller c = omega arith
-
 pub loop-y-preserved : goal.loop-y-preserved
 unfolding row_step
 loop-y-preserved c =
     let l = c.loop-y in
     let a = c.args in
-    let e : l.y + 1 - a.c ≡ (l.y - a.c) + 1 = omega arith in (
-      omega arith,
-      omega arith,
-      fold_more (row_step a.s.now a.w a.a a.b) _ _ _ l.y a.d (omega arith) l.invariant.2 c.row_stats-t.ensures.0,
+    let r = a.rect in
+    let e : l.y + 1 - r.top ≡ (l.y - r.top) + 1 = omega arith in (
+      fold_more (row_step a.s.now a.w r.left r.right) _ _ _ l.y r.bottom (omega arith) l.invariant.0 c.row_stats-t.ensures.0,
       rw (e, next_row) (omega arith),
     )
 
@@ -54,7 +43,8 @@ unfolding row_step column_step
 returns c =
     let l = c.loop-y in
     let a = c.args in
-    let e : l.y ≡ a.d = omega arith in (
-      sym (fold_end (row_step a.s.now a.w a.a a.b) _ _ l.y a.d (omega arith) l.invariant.2) ∙ folded-cells (cell_step a.s.now) a.w (range a.a a.b) (range a.c a.d) _,
-      rw e at l.invariant.3,
+    let r = a.rect in
+    let e : l.y ≡ r.bottom = omega arith in (
+      sym (fold_end (row_step a.s.now a.w r.left r.right) _ _ l.y r.bottom (omega arith) l.invariant.0) ∙ folded-cells (cell_step a.s.now) a.w (range r.left r.right) (range r.top r.bottom) _,
+      rw e at l.invariant.1,
     )

@@ -7,7 +7,5 @@ use Rattle.blocks.proofs.stats.rect_stats.Given as goal
 
 abbrev pub invariant-loop-y : goal.invariant-loop-y
 invariant-loop-y l =
-    (l.c ≤ l.y) × (l.y ≤ l.d) × (folded (row_step l.s l.w l.a l.b) l.initial.t (range l.c l.d) ≡ folded (row_step l.s l.w l.a l.b) l.t (range l.y l.d)) × (l.t.sum ≤ 255 * ((l.y - l.c) * (l.b - l.a)))
-
-abbrev pub decreases-loop-y : goal.decreases-loop-y
-decreases-loop-y l = l.d - l.y
+    let step = row_step l.s l.w l.rect.left l.rect.right in
+    (folded step l.initial.t (range l.rect.top l.rect.bottom) ≡ folded step l.t (range l.y l.rect.bottom)) × (l.t.sum ≤ 255 * ((l.y - l.rect.top) * (l.rect.right - l.rect.left)))

@@ -7,7 +7,4 @@ use Rattle.blocks.proofs.stats.row_stats.Given as goal
 
 abbrev pub invariant-loop-x : goal.invariant-loop-x
 invariant-loop-x l =
-    (l.a ≤ l.x) × (l.x ≤ l.b) × (folded (column_step l.s l.from) l.initial.r (range l.a l.b) ≡ folded (column_step l.s l.from) l.r (range l.x l.b)) × (l.r.sum ≤ l.initial.r.sum + 255 * (l.x - l.a))
-
-abbrev pub decreases-loop-x : goal.decreases-loop-x
-decreases-loop-x l = l.b - l.x
+    (folded (column_step l.s l.from) l.initial.r (range l.a l.b) ≡ folded (column_step l.s l.from) l.r (range l.x l.b)) × (l.r.sum ≤ l.initial.r.sum + 255 * (l.x - l.a))

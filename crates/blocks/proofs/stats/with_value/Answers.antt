@@ -4,4 +4,4 @@ use native.Mathlib.Omega.{arith}
 use Rattle.blocks.proofs.stats.with_value.Goals as goal
 
 pub returns : goal.returns
-returns c = (rw (c.least_byte.ensures, c.greatest_byte.ensures) refl, omega arith)
+returns c = (rw (c.min.ensures, c.max.ensures) refl, omega arith)

@@ -1,0 +1,48 @@
+// Gray pictures and their blocks.
+ghost use Rattle.std.specs.Prelude.{◌≡◌, ◌+◌, ◌*◌, ◌/◌, ◌%◌, ◌≤◌, ◌<◌, min, length};
+ghost use Rattle.lcr_core.specs.Passed.{Sides};
+ghost use Rattle.blocks.specs.Blocks.{blocks_on, blocks_in};
+
+use super::rect::Rect;
+
+// The gray values of width × height pixels, row by row.
+#[derive(Clone, Copy)]
+pub struct Picture<'a> {
+    pub gray: &'a [u8],
+    pub width: usize,
+    pub height: usize,
+    pub ghost sides: { Sides width height },
+    pub ghost bytes: { width * height ≤ length gray.now },
+}
+
+impl Picture<'_> {
+    // How many blocks there are in a row of blocks.
+    pub fn columns(self) -> usize
+        ensures { result ≡ blocks_on self.entry.width }
+    {
+        self.width.div_ceil(8)
+    }
+
+    // How many rows of blocks there are.
+    pub fn rows(self) -> usize
+        ensures { result ≡ blocks_on self.entry.height }
+    {
+        self.height.div_ceil(8)
+    }
+
+    // The pixels of block number i.
+    pub fn block(self, i: usize) -> Rect
+        requires { i < blocks_in self.width self.height }
+        ensures { let p = self.entry in (result.left ≡ i % blocks_on p.width * 8) × (result.right ≡ min p.width (i % blocks_on p.width * 8 + 8))
+            × (result.top ≡ i / blocks_on p.width * 8) × (result.bottom ≡ min p.height (i / blocks_on p.width * 8 + 8)) }
+    {
+        let left = i % self.columns() * 8;
+        let top = i / self.columns() * 8;
+        Rect {
+            left,
+            right: self.width.min(left + 8),
+            top,
+            bottom: self.height.min(top + 8),
+        }
+    }
+}

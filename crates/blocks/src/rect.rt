@@ -1,0 +1,28 @@
+// Rectangles of a grid's columns and rows.
+ghost use Rattle.std.specs.Prelude.{◌≡◌, ◌+◌, ◌-◌, ◌≤◌, ◌<◌, min};
+
+// The columns from `left` on below `right` in the rows from `top` on below `bottom`.
+#[derive(Clone, Copy)]
+pub struct Rect {
+    pub left: usize,
+    pub right: usize,
+    pub top: usize,
+    pub bottom: usize,
+    pub ghost wide: { left ≤ right },
+    pub ghost high: { top ≤ bottom },
+}
+
+impl Rect {
+    // The window of a radius about column x and row y of a grid, cut at its edges.
+    pub fn about(width: usize, height: usize, x: usize, y: usize, radius: usize) -> Self
+        requires { (width ≤ 512) × (height ≤ 512) × (x < width) × (y < height) × (radius ≤ 512) }
+        ensures { (result.left ≡ x - radius) × (result.right ≡ min width (x + radius + 1)) × (result.top ≡ y - radius) × (result.bottom ≡ min height (y + radius + 1)) }
+    {
+        Rect {
+            left: x.saturating_sub(radius),
+            right: width.min(x + radius + 1),
+            top: y.saturating_sub(radius),
+            bottom: height.min(y + radius + 1),
+        }
+    }
+}
