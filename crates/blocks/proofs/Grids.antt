@@ -11,7 +11,7 @@ use Rattle.lists.proofs.Folds.{folded-append, folded_map, length-count, each_ran
 use Rattle.lcr_core.specs.Passed.{Sides}
 use Rattle.blocks.specs.declared.rect.Rect.{Rect}
 use Rattle.blocks.specs.Blocks.{cells, blocks_on, blocks_in}
-use Rattle.blocks.specs.Steps.{InRect}
+use Rattle.blocks.specs.Rects.{IsAbout, IsBlock, InRect}
 
 -- a fold over cells goes row by row
 pub folded-cells : {S : Type 0} (g : S → ℕ → S) (w : ℕ) (xs ys : List ℕ) (s : S)
@@ -54,8 +54,7 @@ place i (suc w) h l =
     let p : 0 < suc w = omega arith in (p, mod-lt i p, (div-lt_iff_lt-mul {k = suc w} {x = i} {y = h} p).1 l)
 
 -- the 3 × 3 neighbourhood lies within the grid
-pub near_within : (len i w h : ℕ) (r : Rect) → i < h * w → w ≤ 512 → h ≤ 512 → h * w ≤ len
-    → (r.left ≡ i % w - 1) × (r.right ≡ min w (i % w + 1 + 1)) × (r.top ≡ i / w - 1) × (r.bottom ≡ min h (i / w + 1 + 1)) → InRect len w r
+pub near_within : (len i w h : ℕ) (r : Rect) → i < h * w → w ≤ 512 → h ≤ 512 → h * w ≤ len → IsAbout w h (i % w) (i / w) 1 r → InRect len w r
 near_within len i w h r l wide high all e =
     record {
       cols = omega arith;
@@ -65,12 +64,7 @@ near_within len i w h r l wide high all e =
       all = omega (arith, mul-le-mul_right {m = r.bottom} {n = h} w (omega arith));
     }
 
--- the bounds of the pixels of block number i of a picture of w × h pixels
-abbrev pub IsBlock : ℕ → ℕ → ℕ → Rect → Type 0
-IsBlock w h i r =
-    (r.left ≡ i % blocks_on w * 8) × (r.right ≡ min w (i % blocks_on w * 8 + 8)) × (r.top ≡ i / blocks_on w * 8) × (r.bottom ≡ min h (i / blocks_on w * 8 + 8))
-
--- they lie within the picture
+-- the pixels of block number i lie within the picture
 pub block_within : (len w h i : ℕ) (r : Rect) → Sides w h → w * h ≤ len → IsBlock w h i r → InRect len w r
 block_within len w h i r s all e =
     record {

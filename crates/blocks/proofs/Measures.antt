@@ -7,8 +7,9 @@ use Rattle.lists.specs.Lists.{folded}
 use Rattle.blocks.specs.declared.rect.Rect.{Rect}
 use Rattle.blocks.specs.declared.stats.Stats.{Stats}
 use Rattle.blocks.specs.Blocks.{mean, least, greatest, at, block_at, mean_at, least_at, greatest_at}
-use Rattle.blocks.specs.Steps.{cell_step, no_value, cells_of}
-use Rattle.blocks.proofs.Grids.{length-cells, IsBlock}
+use Rattle.blocks.specs.Rects.{cells_of, IsBlock}
+use Rattle.blocks.specs.Steps.{cell_step, no_value}
+use Rattle.blocks.proofs.Grids.{length-cells}
 
 -- what was counted is the sum, the least and the greatest of the values
 measured : (s : List ℕ) (t : Stats) (is : List ℕ) → folded (cell_step s) t is
@@ -30,5 +31,5 @@ pub block_is : (g : List ℕ) (w h i : ℕ) (r : Rect) (t : Stats) → IsBlock w
     → (t.sum / ((r.bottom - r.top) * (r.right - r.left)) ≡ mean_at g w h i) × (t.least ≡ least_at g w h i) × (t.greatest ≡ greatest_at g w h i)
 unfolding block_at
 block_is g w h i r t e q =
-    let same : map (at g) (cells_of w r) ≡ block_at g w h i = rw (e.0, e.1, e.2, e.3) in
+    let same : map (at g) (cells_of w r) ≡ block_at g w h i = rw (e.left, e.right, e.top, e.bottom) in
     rw same at (values_in g w r t q)

@@ -1,10 +1,9 @@
 -- The loops over a rectangle of values, as folds, and what is known where the checks pass. For contracts of inner functions, and for proofs.
-use Rattle.std.specs.Prelude.{ℕ, ◌+◌, ◌-◌, ◌*◌, ◌≤◌, min, max, List}
+use Rattle.std.specs.Prelude.{ℕ, ◌+◌, ◌*◌, ◌≤◌, min, max, List}
 use Rattle.lists.specs.Lists.{range, folded}
 use Rattle.lcr_core.specs.Passed.{Sides}
-use Rattle.blocks.specs.declared.rect.Rect.{Rect}
 use Rattle.blocks.specs.declared.stats.Stats.{Stats}
-use Rattle.blocks.specs.Blocks.{at, cells, blocks_in}
+use Rattle.blocks.specs.Blocks.{at, blocks_in}
 
 -- one value more
 abbrev pub with_value : Stats → ℕ → Stats
@@ -25,18 +24,6 @@ row_step s w a b t y = folded (column_step s (y * w)) t (range a b)
 -- no value yet
 abbrev pub no_value : Stats
 no_value = record { sum = 0; least = 255; greatest = 0 }
-
--- the cells of a rectangle, where a row has w cells
-abbrev pub cells_of : ℕ → Rect → List ℕ
-cells_of w r = cells w (range r.left r.right) (range r.top r.bottom)
-
--- a rectangle has at most 8 × 8 values, within rows of w, of which a list of len has all
-pub record InRect (len w : ℕ) (r : Rect) : Type 0 where
-  pub cols : r.right ≤ w
-  pub narrow : r.right - r.left ≤ 8
-  pub low : r.bottom - r.top ≤ 8
-  pub rows : r.bottom ≤ 4096
-  pub all : r.bottom * w ≤ len
 
 -- what block_values needs is there: len gray bytes, and work slices of these lengths
 pub record Passed (len w h m lo hi e n : ℕ) : Type 0 where

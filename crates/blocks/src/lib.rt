@@ -12,8 +12,8 @@ use picture::Picture;
 use stats::all_values;
 
 mod marks;
-mod picture;
-mod rect;
+pub mod picture;
+pub mod rect;
 mod stats;
 
 // Whether one of the five work slices is too short for n blocks.

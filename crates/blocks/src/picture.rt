@@ -1,7 +1,8 @@
 // Gray pictures and their blocks.
-ghost use Rattle.std.specs.Prelude.{◌≡◌, ◌+◌, ◌*◌, ◌/◌, ◌%◌, ◌≤◌, ◌<◌, min, length};
+ghost use Rattle.std.specs.Prelude.{◌≡◌, ◌*◌, ◌≤◌, ◌<◌, length};
 ghost use Rattle.lcr_core.specs.Passed.{Sides};
 ghost use Rattle.blocks.specs.Blocks.{blocks_on, blocks_in};
+ghost use Rattle.blocks.specs.Rects.{IsBlock};
 
 use super::rect::Rect;
 
@@ -33,8 +34,7 @@ impl Picture<'_> {
     // The pixels of block number i.
     pub fn block(self, i: usize) -> Rect
         requires { i < blocks_in self.width self.height }
-        ensures { let p = self.entry in (result.left ≡ i % blocks_on p.width * 8) × (result.right ≡ min p.width (i % blocks_on p.width * 8 + 8))
-            × (result.top ≡ i / blocks_on p.width * 8) × (result.bottom ≡ min p.height (i / blocks_on p.width * 8 + 8)) }
+        ensures { IsBlock self.entry.width self.entry.height i result }
     {
         let left = i % self.columns() * 8;
         let top = i / self.columns() * 8;

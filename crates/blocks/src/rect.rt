@@ -1,5 +1,5 @@
 // Rectangles of a grid's columns and rows.
-ghost use Rattle.std.specs.Prelude.{◌≡◌, ◌+◌, ◌-◌, ◌≤◌, ◌<◌, min};
+ghost use Rattle.std.specs.Prelude.{◌≤◌, ◌<◌};
 
 // The columns from `left` on below `right` in the rows from `top` on below `bottom`.
 #[derive(Clone, Copy)]
@@ -13,10 +13,12 @@ pub struct Rect {
 }
 
 impl Rect {
+    ghost use Rattle.blocks.specs.Rects.{IsAbout};
+
     // The window of a radius about column x and row y of a grid, cut at its edges.
     pub fn about(width: usize, height: usize, x: usize, y: usize, radius: usize) -> Self
         requires { (width ≤ 512) × (height ≤ 512) × (x < width) × (y < height) × (radius ≤ 512) }
-        ensures { (result.left ≡ x - radius) × (result.right ≡ min width (x + radius + 1)) × (result.top ≡ y - radius) × (result.bottom ≡ min height (y + radius + 1)) }
+        ensures { IsAbout width height x y radius result }
     {
         Rect {
             left: x.saturating_sub(radius),

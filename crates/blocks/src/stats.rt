@@ -2,7 +2,8 @@
 ghost use Rattle.std.specs.Prelude.{◌≡◌, ◌+◌, ◌-◌, ◌*◌, ◌≤◌, ◌<◌, length};
 ghost use Rattle.lists.specs.Lists.{range, folded, filled};
 ghost use Rattle.blocks.specs.Blocks.{blocks_in, mean_at, least_at, greatest_at};
-ghost use Rattle.blocks.specs.Steps.{with_value, cell_step, column_step, no_value, cells_of, InRect};
+ghost use Rattle.blocks.specs.Rects.{cells_of, InRect};
+ghost use Rattle.blocks.specs.Steps.{with_value, cell_step, column_step, no_value};
 
 use super::picture::Picture;
 use super::rect::Rect;

@@ -16,4 +16,4 @@ returns c =
     let e = c.about-near.ensures in
     let low = (values_in c.args.least.now _ c.about-near.result _ c.rect_stats-low.ensures.0).1 in
     let high = (values_in c.args.greatest.now _ c.about-near.result _ c.rect_stats-high.ensures.0).2 in
-    c.mark.ensures ∙ ap₂ blocks.mark low high ∙ rw (e.0, e.1, e.2, e.3)
+    c.mark.ensures ∙ ap₂ blocks.mark low high ∙ rw (e.left, e.right, e.top, e.bottom)
