@@ -10,48 +10,48 @@ use Rattle.binary.specs.Binary.{dark_at}
 use Rattle.binary.specs.Line.{row, column, run, run_back, run_before, run_after, end_before, end_after}
 use Rattle.binary.specs.declared.line.End.TheVariants.{Change, Edge, Limit}
 use Rattle.binary.proofs.Ends.{end_of, before_end, after_end}
-use Rattle.confirm.specs.declared.Centre.{Centre}
-use Rattle.confirm.specs.declared.Centre.TheVariants.{At, Nowhere}
-use Rattle.confirm.specs.declared.Confirmed.{Confirmed}
-use Rattle.confirm.specs.declared.Confirmed.TheVariants.{Point, Nothing}
-use Rattle.confirm.specs.Confirm.{limit_of, is_cut, side_before, side_after, any_cut, counted_of, core_of, and_then, vertical_by, horizontal_by, row_by, column_by, confirmed_by, confirmed_on}
-use Rattle.confirm.specs.Published.{counted_on, of_centre, cut_down, cut_across, row_cut, column_cut, cut_on}
+use Rattle.std.specs.Prelude.{Option, Some, None, option_and_then}
+use Rattle.std.specs.Option.{option_map_or}
+use Rattle.transform.specs.declared.Point.{Point}
+use Rattle.confirm.specs.Confirm.{limit_of, is_cut, side_before, side_after, any_cut, counted_of, core_of, vertical_by, horizontal_by, row_by, column_by, confirmed_by, confirmed_on}
+use Rattle.confirm.specs.Published.{counted_on, cut_down, cut_across, row_cut, column_cut, cut_on}
 
 -- one confirmation: about a dark pixel (d), with a run that was cut (c), by document 000 at k
-by_one : (d c : Bool) (k : Centre) (next : Float → Confirmed) → and_then (cond d (cond c Nowhere k) Nowhere) next ≡ cond c Nothing (and_then (cond d k Nowhere) next)
+by_one : (d c : Bool) (k : Option Float) (next : Float → Option Point)
+    → option_and_then next (cond d (cond c None k) None) ≡ cond c None (option_and_then next (cond d k None))
 by_one true true k next = refl
 by_one true false k next = refl
 by_one false true k next = refl
 by_one false false k next = refl
 
 -- two, the second about the centre that the first one gives
-by_two : (d c : Bool) (k : Centre) (d' c' : Float → Bool) (k' : Float → Centre) (next : Float → Float → Confirmed)
-    → and_then (cond d (cond c Nowhere k) Nowhere) (λ v. and_then (cond (d' v) (cond (c' v) Nowhere (k' v)) Nowhere) (next v))
-    ≡ cond (c || of_centre (cond d k Nowhere) c') Nothing (and_then (cond d k Nowhere) (λ v. and_then (cond (d' v) (k' v) Nowhere) (next v)))
+by_two : (d c : Bool) (k : Option Float) (d' c' : Float → Bool) (k' : Float → Option Float) (next : Float → Float → Option Point)
+    → option_and_then (λ v. option_and_then (next v) (cond (d' v) (cond (c' v) None (k' v)) None)) (cond d (cond c None k) None)
+    ≡ cond (c || option_map_or c' (cond d k None) false) None (option_and_then (λ v. option_and_then (next v) (cond (d' v) (k' v) None)) (cond d k None))
 by_two true true k d' c' k' next = refl
-by_two true false (At v) d' c' k' next = by_one (d' v) (c' v) (k' v) (next v)
-by_two true false Nowhere d' c' k' next = refl
+by_two true false (Some v) d' c' k' next = by_one (d' v) (c' v) (k' v) (next v)
+by_two true false None d' c' k' next = refl
 by_two false true k d' c' k' next = refl
 by_two false false k d' c' k' next = refl
 
 module _ (bits : List ℕ) (w h : ℕ) where
-  row_dropped : (y : ℕ) (centre m : Float) → row_by core_of bits w h y centre m ≡ cond (row_cut bits w h y centre m) Nothing (row_by counted_of bits w h y centre m)
+  row_dropped : (y : ℕ) (centre m : Float) → row_by core_of bits w h y centre m ≡ cond (row_cut bits w h y centre m) None (row_by counted_of bits w h y centre m)
   unfolding row_by vertical_by horizontal_by core_of row_cut
   row_dropped y centre m =
       let x = to_unsigned 32 centre in
       by_two (dark_at bits w h x y) (cut_down bits w h x y m) (counted_of (column bits w x) h y (limit_of m)) (λ v. dark_at bits w h x (to_unsigned 32 v)) (λ v. cut_across bits w h x (to_unsigned 32 v) m)
-      (λ v. counted_of (row bits w (to_unsigned 32 v)) w x (limit_of m)) (λ cy cx. Point cx cy)
+      (λ v. counted_of (row bits w (to_unsigned 32 v)) w x (limit_of m)) (λ cy cx. Some (record { x = cx; y = cy }))
 
-  column_dropped : (x : ℕ) (centre m : Float) → column_by core_of bits w h x centre m ≡ cond (column_cut bits w h x centre m) Nothing (column_by counted_of bits w h x centre m)
+  column_dropped : (x : ℕ) (centre m : Float) → column_by core_of bits w h x centre m ≡ cond (column_cut bits w h x centre m) None (column_by counted_of bits w h x centre m)
   unfolding column_by vertical_by horizontal_by core_of column_cut
   column_dropped x centre m =
       let y = to_unsigned 32 centre in
       by_two (dark_at bits w h x y) (cut_across bits w h x y m) (counted_of (row bits w y) w x (limit_of m)) (λ v. dark_at bits w h (to_unsigned 32 v) y) (λ v. cut_down bits w h (to_unsigned 32 v) y m)
-      (λ v. counted_of (column bits w (to_unsigned 32 v)) h y (limit_of m)) (λ cx cy. Point cx cy)
+      (λ v. counted_of (column bits w (to_unsigned 32 v)) h y (limit_of m)) (λ cx cy. Some (record { x = cx; y = cy }))
 
   -- on row n, or on column n
   pub cut_dropped : (columns : Bool) (n : ℕ) (centre m : Float)
-      → confirmed_on bits w h columns n centre m ≡ cond (cut_on bits w h columns n centre m) Nothing (counted_on bits w h columns n centre m)
+      → confirmed_on bits w h columns n centre m ≡ cond (cut_on bits w h columns n centre m) None (counted_on bits w h columns n centre m)
   unfolding confirmed_by cut_on
   cut_dropped true n centre m = column_dropped n centre m
   cut_dropped false n centre m = row_dropped n centre m

@@ -1,7 +1,7 @@
 -- How a hit is confirmed (document 01, "Finding and ranking": "A row hit is confirmed down, then across, a column hit across, then down, each run
 -- stopping after 5 × module (truncated) + 4 pixels"; document 02, N7: "A finder hit with a run ended by the limit in either confirmation is dropped").
 -- Definitions only.
-use Rattle.std.specs.Prelude.{ℕ, ◌+◌, ◌-◌, Bool, true, false, cond, ◌||◌, List, Float}
+use Rattle.std.specs.Prelude.{ℕ, ◌+◌, ◌-◌, Bool, true, false, cond, ◌||◌, List, Float, Option, Some, None, option_and_then}
 use Rattle.std.specs.Float.Ieee.{to_unsigned}
 use Rattle.float.specs.Steps.{plus32, times32, over32, whole32}
 use Rattle.float.specs.Constants.{f2, f5}
@@ -13,10 +13,7 @@ use Rattle.binary.specs.declared.line.Run.{Run}
 use Rattle.ratio.specs.Ratio.{match_of}
 use Rattle.ratio.specs.declared.Match.{Match}
 use Rattle.ratio.specs.declared.Match.TheVariants as match
-use Rattle.confirm.specs.declared.Centre.{Centre}
-use Rattle.confirm.specs.declared.Centre.TheVariants.{At, Nowhere}
-use Rattle.confirm.specs.declared.Confirmed.{Confirmed}
-use Rattle.confirm.specs.declared.Confirmed.TheVariants.{Point, Nothing}
+use Rattle.transform.specs.declared.Point.{Point}
 use Rattle.confirm.specs.declared.Side.{Side}
 
 -- 5 × module (truncated) + 4
@@ -41,18 +38,18 @@ unfoldable pub side_after : (ℕ → Bool) → ℕ → ℕ → ℕ → Side
 side_after f len limit i = let light = limited_after false f len limit i in side_of light (limited_after true f len limit (i + light.count))
 
 -- the centre, where the runs pass
-abbrev pub centre_if : Match → Float → Centre
-centre_if (match.Module m) x = At x
-centre_if match.Nothing x = Nowhere
+abbrev pub centre_if : Match → Float → Option Float
+centre_if (match.Module m) x = Some x
+centre_if match.Nothing x = None
 
 -- a core of so many pixels from pixel `top` on, between two sides
-unfoldable pub centre_of : Side → ℕ → Side → ℕ → Centre
+unfoldable pub centre_of : Side → ℕ → Side → ℕ → Option Float
 centre_of a core b top =
     centre_if (match_of a.dark a.light core b.light b.dark) (plus32 (whole32 top) (over32 (whole32 core) f2))
 
 -- a rule for the centre of the core about pixel i of a line f of len pixels, where each run stops at a limit
 abbrev pub Rule : Type 0
-Rule = (ℕ → Bool) → ℕ → ℕ → ℕ → Centre
+Rule = (ℕ → Bool) → ℕ → ℕ → ℕ → Option Float
 
 -- document 000's: the core is the dark run about pixel i, and the runs are taken as counted, however they ended
 unfoldable pub counted_of : Rule
@@ -70,50 +67,45 @@ any_cut f len i limit =
 
 -- the amended rule (N7): nowhere, where the limit ended one
 unfoldable pub core_of : Rule
-core_of f len i limit = cond (any_cut f len i limit) Nowhere (counted_of f len i limit)
-
--- what follows a centre, where there is one
-abbrev pub and_then : Centre → (Float → Confirmed) → Confirmed
-and_then (At v) next = next v
-and_then Nowhere next = Nothing
+core_of f len i limit = cond (any_cut f len i limit) None (counted_of f len i limit)
 
 -- a confirmation by a rule
 module _ (rule : Rule) (bits : List ℕ) (width height : ℕ) where
   -- down column x about row y, and across row y about column x
-  unfoldable pub vertical_by : ℕ → ℕ → Float → Centre
-  vertical_by x y m = cond (dark_at bits width height x y) (rule (column bits width x) height y (limit_of m)) Nowhere
+  unfoldable pub vertical_by : ℕ → ℕ → Float → Option Float
+  vertical_by x y m = cond (dark_at bits width height x y) (rule (column bits width x) height y (limit_of m)) None
 
-  unfoldable pub horizontal_by : ℕ → ℕ → Float → Centre
-  horizontal_by x y m = cond (dark_at bits width height x y) (rule (row bits width y) width x (limit_of m)) Nowhere
+  unfoldable pub horizontal_by : ℕ → ℕ → Float → Option Float
+  horizontal_by x y m = cond (dark_at bits width height x y) (rule (row bits width y) width x (limit_of m)) None
 
   -- a hit with its centre at x on row y is confirmed down, then across
-  unfoldable pub row_by : ℕ → Float → Float → Confirmed
+  unfoldable pub row_by : ℕ → Float → Float → Option Point
   row_by y centre m =
       let x = to_unsigned 32 centre in
-      and_then (vertical_by x y m) (λ cy. and_then (horizontal_by x (to_unsigned 32 cy) m) (λ cx. Point cx cy))
+      option_and_then (λ cy. option_and_then (λ cx. Some (record { x = cx; y = cy })) (horizontal_by x (to_unsigned 32 cy) m)) (vertical_by x y m)
 
   -- a hit with its centre at y on column x is confirmed across, then down
-  unfoldable pub column_by : ℕ → Float → Float → Confirmed
+  unfoldable pub column_by : ℕ → Float → Float → Option Point
   column_by x centre m =
       let y = to_unsigned 32 centre in
-      and_then (horizontal_by x y m) (λ cx. and_then (vertical_by (to_unsigned 32 cx) y m) (λ cy. Point cx cy))
+      option_and_then (λ cx. option_and_then (λ cy. Some (record { x = cx; y = cy })) (vertical_by (to_unsigned 32 cx) y m)) (horizontal_by x y m)
 
   -- on row n, or on column n
-  unfoldable pub confirmed_by : Bool → ℕ → Float → Float → Confirmed
+  unfoldable pub confirmed_by : Bool → ℕ → Float → Float → Option Point
   confirmed_by columns n centre m = cond columns (column_by n centre m) (row_by n centre m)
 
 -- by the amended rule, which the detector has
-abbrev pub confirm_vertical : List ℕ → ℕ → ℕ → ℕ → ℕ → Float → Centre
+abbrev pub confirm_vertical : List ℕ → ℕ → ℕ → ℕ → ℕ → Float → Option Float
 confirm_vertical = vertical_by core_of
 
-abbrev pub confirm_horizontal : List ℕ → ℕ → ℕ → ℕ → ℕ → Float → Centre
+abbrev pub confirm_horizontal : List ℕ → ℕ → ℕ → ℕ → ℕ → Float → Option Float
 confirm_horizontal = horizontal_by core_of
 
-abbrev pub row_confirmed : List ℕ → ℕ → ℕ → ℕ → Float → Float → Confirmed
+abbrev pub row_confirmed : List ℕ → ℕ → ℕ → ℕ → Float → Float → Option Point
 row_confirmed = row_by core_of
 
-abbrev pub column_confirmed : List ℕ → ℕ → ℕ → ℕ → Float → Float → Confirmed
+abbrev pub column_confirmed : List ℕ → ℕ → ℕ → ℕ → Float → Float → Option Point
 column_confirmed = column_by core_of
 
-abbrev pub confirmed_on : List ℕ → ℕ → ℕ → Bool → ℕ → Float → Float → Confirmed
+abbrev pub confirmed_on : List ℕ → ℕ → ℕ → Bool → ℕ → Float → Float → Option Point
 confirmed_on = confirmed_by core_of

@@ -1,21 +1,15 @@
 -- The confirmation as document 000 has it, and which of its hits document 02, N7, drops: what the theorems on equality with it speak of, and no contract
 -- does. Definitions only.
-use Rattle.std.specs.Prelude.{ℕ, Bool, false, cond, ◌||◌, List, Float}
+use Rattle.std.specs.Prelude.{ℕ, Bool, false, cond, ◌||◌, List, Float, Option}
+use Rattle.std.specs.Option.{option_map_or}
 use Rattle.std.specs.Float.Ieee.{to_unsigned}
 use Rattle.binary.specs.Line.{row, column}
-use Rattle.confirm.specs.declared.Centre.{Centre}
-use Rattle.confirm.specs.declared.Centre.TheVariants.{At, Nowhere}
-use Rattle.confirm.specs.declared.Confirmed.{Confirmed}
+use Rattle.transform.specs.declared.Point.{Point}
 use Rattle.confirm.specs.Confirm.{limit_of, counted_of, any_cut, vertical_by, horizontal_by, confirmed_by}
 
 -- a hit on row n, or on column n, is confirmed by document 000's rule
-abbrev pub counted_on : List ℕ → ℕ → ℕ → Bool → ℕ → Float → Float → Confirmed
+abbrev pub counted_on : List ℕ → ℕ → ℕ → Bool → ℕ → Float → Float → Option Point
 counted_on = confirmed_by counted_of
-
--- what is asked of a centre, where there is one
-abbrev pub of_centre : Centre → (Float → Bool) → Bool
-of_centre (At v) ask = ask v
-of_centre Nowhere ask = false
 
 module _ (bits : List ℕ) (width height : ℕ) where
   -- whether the limit ended a run down column x about row y, and across row y about column x
@@ -29,13 +23,13 @@ module _ (bits : List ℕ) (width height : ℕ) where
   unfoldable pub row_cut : ℕ → Float → Float → Bool
   row_cut y centre m =
       let x = to_unsigned 32 centre in
-      cut_down x y m || of_centre (vertical_by counted_of bits width height x y m) (λ cy. cut_across x (to_unsigned 32 cy) m)
+      cut_down x y m || option_map_or (λ cy. cut_across x (to_unsigned 32 cy) m) (vertical_by counted_of bits width height x y m) false
 
   -- and of a hit with its centre at y on column x
   unfoldable pub column_cut : ℕ → Float → Float → Bool
   column_cut x centre m =
       let y = to_unsigned 32 centre in
-      cut_across x y m || of_centre (horizontal_by counted_of bits width height x y m) (λ cx. cut_down (to_unsigned 32 cx) y m)
+      cut_across x y m || option_map_or (λ cx. cut_down (to_unsigned 32 cx) y m) (horizontal_by counted_of bits width height x y m) false
 
   -- on row n, or on column n
   unfoldable pub cut_on : Bool → ℕ → Float → Float → Bool

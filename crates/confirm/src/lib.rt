@@ -7,20 +7,7 @@ ghost use Rattle.confirm.specs.Confirm.{limit_of, is_cut, side_of, side_before, 
 
 use binary::line::{End, Run, limited_back, limited_on};
 use ratio::Match;
-
-// The centre of a core on a line.
-#[derive(Clone, Copy)]
-pub enum Centre {
-    At(f32),
-    Nowhere,
-}
-
-// The centre of a finder, x and y.
-#[derive(Clone, Copy)]
-pub enum Confirmed {
-    Point(f32, f32),
-    Nothing,
-}
+use transform::Point;
 
 // The runs beyond a core on one side, and whether the limit ended one of them.
 #[derive(Clone, Copy)]
@@ -41,23 +28,16 @@ fn limit_of(module: f32) -> u64
 fn is_cut(end: End) -> bool
     ensures { result ≡ is_cut end }
 {
-    match end {
-        End::Change => false,
-        End::Edge => false,
-        End::Limit => true,
-    }
+    end == End::Limit
 }
 
 fn side_of(light: Run, dark: Run) -> Side
     ensures { result ≡ side_of light dark }
 {
-    let light_end = light.end;
-    let dark_end = dark.end;
-    let cut = is_cut(light_end) | is_cut(dark_end);
     Side {
         light: light.count,
         dark: dark.count,
-        cut: cut,
+        cut: is_cut(light.end) | is_cut(dark.end),
     }
 }
 
@@ -79,17 +59,17 @@ fn side_after(bits: &[u8], start: u32, stride: u32, len: u16, from: u16, limit: 
 }
 
 // The centre of a core of so many pixels that starts at pixel `top`, where the runs pass.
-fn centre_of(a: Side, core: u16, b: Side, top: u16) -> Centre
+fn centre_of(a: Side, core: u16, b: Side, top: u16) -> Option<f32>
     ensures { result ≡ centre_of a core b top }
 {
     match ratio::matches_finder(a.dark, a.light, core, b.light, b.dark) {
-        Match::Module(_) => Centre::At(top as f32 + core as f32 / 2.0),
-        Match::Nothing => Centre::Nowhere,
+        Match::Module(_) => Some(top as f32 + core as f32 / 2.0),
+        Match::Nothing => None,
     }
 }
 
 // The centre of the core about the dark pixel i of a line, where the runs pass and the limit ended none.
-fn core_on(bits: &[u8], start: u32, stride: u32, len: u16, i: u16, module: f32) -> Centre
+fn core_on(bits: &[u8], start: u32, stride: u32, len: u16, i: u16, module: f32) -> Option<f32>
     requires { i < len }
     ensures { result ≡ core_of (pixel bits.now start stride) len i (limit_of «module») }
 {
@@ -100,23 +80,20 @@ fn core_on(bits: &[u8], start: u32, stride: u32, len: u16, i: u16, module: f32) 
     let top = i - up.count;
     let a = side_before(bits, start, stride, top, limit);
     let b = side_after(bits, start, stride, len, i + 1 + down.count, limit);
-    let up_end = up.end;
-    let down_end = down.end;
-    let cut = is_cut(up_end) | is_cut(down_end) | a.cut | b.cut;
-    if !cut {
-        return centre_of(a, core, b, top);
+    if is_cut(up.end) | is_cut(down.end) | a.cut | b.cut {
+        return None;
     }
-    Centre::Nowhere
+    centre_of(a, core, b, top)
 }
 
 // The finder's y on column x, about row y.
-pub fn confirm_vertical(bits: &[u8], width: u16, height: u16, x: u32, y: u32, module: f32) -> Centre
+pub fn confirm_vertical(bits: &[u8], width: u16, height: u16, x: u32, y: u32, module: f32) -> Option<f32>
     ensures { result ≡ confirm_vertical bits.now width height x y «module» }
 {
     if binary::dark(bits, width as u32, height as u32, x, y) {
         return core_on(bits, x, width as u32, height, y as u16, module);
     }
-    Centre::Nowhere
+    None
 }
 
 // The finder's x on row y, about column x.
@@ -127,13 +104,13 @@ pub fn confirm_horizontal(
     x: u32,
     y: u32,
     module: f32,
-) -> Centre
+) -> Option<f32>
     ensures { result ≡ confirm_horizontal bits.now width height x y «module» }
 {
     if binary::dark(bits, width as u32, height as u32, x, y) {
         return core_on(bits, y * width as u32, 1, width, x as u16, module);
     }
-    Centre::Nowhere
+    None
 }
 
 // A hit on a row is confirmed down, then across.
@@ -144,24 +121,13 @@ fn confirm_row(
     row: u16,
     centre: f32,
     module: f32,
-) -> Confirmed
+) -> Option<Point>
     ensures { result ≡ row_confirmed bits.now width height row centre «module» }
 {
-    let x = float::to_u32(centre);
-    match confirm_vertical(bits, width, height, x, row as u32, module) {
-        Centre::At(cy) => match confirm_horizontal(
-            bits,
-            width,
-            height,
-            x,
-            float::to_u32(cy),
-            module,
-        ) {
-            Centre::At(cx) => Confirmed::Point(cx, cy),
-            Centre::Nowhere => Confirmed::Nothing,
-        },
-        Centre::Nowhere => Confirmed::Nothing,
-    }
+    let column = float::to_u32(centre);
+    let y = confirm_vertical(bits, width, height, column, row as u32, module)?;
+    let x = confirm_horizontal(bits, width, height, column, float::to_u32(y), module)?;
+    Some(Point { x, y })
 }
 
 // A hit on a column is confirmed across, then down.
@@ -172,24 +138,13 @@ fn confirm_column(
     column: u16,
     centre: f32,
     module: f32,
-) -> Confirmed
+) -> Option<Point>
     ensures { result ≡ column_confirmed bits.now width height column centre «module» }
 {
-    let y = float::to_u32(centre);
-    match confirm_horizontal(bits, width, height, column as u32, y, module) {
-        Centre::At(cx) => match confirm_vertical(
-            bits,
-            width,
-            height,
-            float::to_u32(cx),
-            y,
-            module,
-        ) {
-            Centre::At(cy) => Confirmed::Point(cx, cy),
-            Centre::Nowhere => Confirmed::Nothing,
-        },
-        Centre::Nowhere => Confirmed::Nothing,
-    }
+    let row = float::to_u32(centre);
+    let x = confirm_horizontal(bits, width, height, column as u32, row, module)?;
+    let y = confirm_vertical(bits, width, height, float::to_u32(x), row, module)?;
+    Some(Point { x, y })
 }
 
 // The finder of a hit of so large a module at `centre` of row or column `number`.
@@ -201,7 +156,7 @@ pub fn confirm_hit(
     number: u16,
     centre: f32,
     module: f32,
-) -> Confirmed
+) -> Option<Point>
     ensures { result ≡ confirmed_on bits.now width height columns number centre «module» }
 {
     if columns {

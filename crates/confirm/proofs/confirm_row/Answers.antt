@@ -2,14 +2,14 @@
 use Rattle.confirm.specs.Confirm.{row_by}
 use Rattle.confirm.proofs.confirm_row.Goals as goal
 
-pub returns-in-At-confirm_horizontal : goal.returns-in-At-confirm_horizontal
+pub returns-in_err-y : goal.returns-in_err-y
 unfolding row_by
-returns-in-At-confirm_horizontal c = rw (← c.to_u32-x.ensures, ← c.confirm_vertical.ensures, c.in-At.is, ← c.to_u32.ensures, ← c.confirm_horizontal.ensures, c.in-At-confirm_horizontal.is)
+returns-in_err-y c = rw (← c.to_u32-column.ensures, ← c.confirm_vertical.ensures, c.in_err-y.was) c.from_residual.ensures
 
-pub returns-in-Nowhere-confirm_horizontal : goal.returns-in-Nowhere-confirm_horizontal
+pub returns-in_err-x : goal.returns-in_err-x
 unfolding row_by
-returns-in-Nowhere-confirm_horizontal c = rw (← c.to_u32-x.ensures, ← c.confirm_vertical.ensures, c.in-At.is, ← c.to_u32.ensures, ← c.confirm_horizontal.ensures, c.in-Nowhere-confirm_horizontal.is)
+returns-in_err-x c = rw (← c.to_u32-column.ensures, ← c.confirm_vertical.ensures, c.in_ok-y.was, ← c.to_u32.ensures, ← c.confirm_horizontal.ensures, c.in_err-x.was) c.from_residual-in_err-x.ensures
 
-pub returns-in-Nowhere : goal.returns-in-Nowhere
+pub returns : goal.returns
 unfolding row_by
-returns-in-Nowhere c = rw (← c.to_u32-x.ensures, ← c.confirm_vertical.ensures, c.in-Nowhere.is)
+returns c = rw (← c.to_u32-column.ensures, ← c.confirm_vertical.ensures, c.in_ok-y.was, ← c.to_u32.ensures, ← c.confirm_horizontal.ensures, c.in_ok-x.was)
