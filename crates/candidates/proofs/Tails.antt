@@ -18,11 +18,8 @@ use Rattle.binary.specs.Binary.{dark_bit, dark_at, bytes_of}
 use Rattle.binary.specs.Line.{row, column, run, run_back, run_before, run_after, end_before, end_after}
 use Rattle.binary.proofs.Ends.{end_of, before_end, after_end}
 use Rattle.binary.specs.Refusal.{short_bits, bits_refusal}
-use Rattle.confirm.specs.Confirm.{limit_of, side_before, side_after, counted_of, any_cut, core_of, and_then, vertical_by, horizontal_by, row_by, column_by, confirmed_by, confirm_vertical, confirm_horizontal, row_confirmed, column_confirmed, confirmed_on}
-use Rattle.confirm.specs.declared.Centre.{Centre}
-use Rattle.confirm.specs.declared.Centre.TheVariants.{Nowhere}
-use Rattle.confirm.specs.declared.Confirmed.{Confirmed}
-use Rattle.confirm.specs.declared.Confirmed.TheVariants.{Point as Confirmation}
+use Rattle.confirm.specs.Confirm.{limit_of, side_before, side_after, counted_of, any_cut, core_of, vertical_by, horizontal_by, row_by, column_by, confirmed_by, confirm_vertical, confirm_horizontal, row_confirmed, column_confirmed, confirmed_on}
+use Rattle.std.specs.Prelude.{Option, Some, None, option_and_then}
 use Rattle.confirm.proofs.Inside.{dark_inside}
 use Rattle.transform.specs.Apply.{applied}
 use Rattle.transform.specs.declared.Point.{Point}
@@ -127,13 +124,13 @@ folded_same g k [] h s = refl
 folded_same g k (x ∷ xs) h s = rw (h.0 s) (folded_same g k xs h.1 (k s x))
 
 -- what a row's and a column's confirmation are made of
-abbrev row_through : (ℕ → ℕ → Float → Centre) → (ℕ → ℕ → Float → Centre) → ℕ → Float → Float → Confirmed
+abbrev row_through : (ℕ → ℕ → Float → Option Float) → (ℕ → ℕ → Float → Option Float) → ℕ → Float → Float → Option Point
 row_through down across y centre m =
-    let x = to_unsigned 32 centre in and_then (down x y m) (λ cy. and_then (across x (to_unsigned 32 cy) m) (λ cx. Confirmation cx cy))
+    let x = to_unsigned 32 centre in option_and_then (λ cy. option_and_then (λ cx. Some (record { x = cx; y = cy })) (across x (to_unsigned 32 cy) m)) (down x y m)
 
-abbrev column_through : (ℕ → ℕ → Float → Centre) → (ℕ → ℕ → Float → Centre) → ℕ → Float → Float → Confirmed
+abbrev column_through : (ℕ → ℕ → Float → Option Float) → (ℕ → ℕ → Float → Option Float) → ℕ → Float → Float → Option Point
 column_through down across x centre m =
-    let y = to_unsigned 32 centre in and_then (across x y m) (λ cx. and_then (down (to_unsigned 32 cx) y m) (λ cy. Confirmation cx cy))
+    let y = to_unsigned 32 centre in option_and_then (λ cx. option_and_then (λ cy. Some (record { x = cx; y = cy })) (down (to_unsigned 32 cx) y m)) (across x y m)
 
 -- what a detection is made of: the marker by a transform, and the refinement from one
 abbrev build_by : (Transform → Marker) → (Transform → Refined) → Corners → Float → ℕ → Built
@@ -179,7 +176,7 @@ module _ (a b : List ℕ) (w h : ℕ) (same : (k : ℕ) → k < w * h → dark_b
   unfolding vertical_by
   down_same x y m = rw (pixel_same x y) (go (dark_at b w h x y) refl)
     where
-      go : (d : Bool) → dark_at b w h x y ≡ d → cond d (core_of (column a w x) h y (limit_of m)) Nowhere ≡ cond d (core_of (column b w x) h y (limit_of m)) Nowhere
+      go : (d : Bool) → dark_at b w h x y ≡ d → cond d (core_of (column a w x) h y (limit_of m)) None ≡ cond d (core_of (column b w x) h y (limit_of m)) None
       go true e =
           let i = dark_inside b w h x y true (sym e) refl in
           core_same (column a w x) (column b w x) h (column_alike x i.0) y (limit_of m) (omega (arith, i.1))
@@ -189,7 +186,7 @@ module _ (a b : List ℕ) (w h : ℕ) (same : (k : ℕ) → k < w * h → dark_b
   unfolding horizontal_by
   across_same x y m = rw (pixel_same x y) (go (dark_at b w h x y) refl)
     where
-      go : (d : Bool) → dark_at b w h x y ≡ d → cond d (core_of (row a w y) w x (limit_of m)) Nowhere ≡ cond d (core_of (row b w y) w x (limit_of m)) Nowhere
+      go : (d : Bool) → dark_at b w h x y ≡ d → cond d (core_of (row a w y) w x (limit_of m)) None ≡ cond d (core_of (row b w y) w x (limit_of m)) None
       go true e =
           let i = dark_inside b w h x y true (sym e) refl in
           core_same (row a w y) (row b w y) w (row_alike y i.1) x (limit_of m) (omega (arith, i.0))
@@ -204,14 +201,14 @@ module _ (a b : List ℕ) (w h : ℕ) (same : (k : ℕ) → k < w * h → dark_b
   on_row_same : (n : ℕ) (x m : Float) → row_confirmed a w h n x m ≡ row_confirmed b w h n x m
   unfolding row_by
   on_row_same n x m =
-      ap (λ (d : ℕ → ℕ → Float → Centre). row_through d (confirm_horizontal a w h) n x m) down_alike
-      ∙ ap (λ (c : ℕ → ℕ → Float → Centre). row_through (confirm_vertical b w h) c n x m) across_alike
+      ap (λ (d : ℕ → ℕ → Float → Option Float). row_through d (confirm_horizontal a w h) n x m) down_alike
+      ∙ ap (λ (c : ℕ → ℕ → Float → Option Float). row_through (confirm_vertical b w h) c n x m) across_alike
 
   on_column_same : (n : ℕ) (x m : Float) → column_confirmed a w h n x m ≡ column_confirmed b w h n x m
   unfolding column_by
   on_column_same n x m =
-      ap (λ (d : ℕ → ℕ → Float → Centre). column_through d (confirm_horizontal a w h) n x m) down_alike
-      ∙ ap (λ (c : ℕ → ℕ → Float → Centre). column_through (confirm_vertical b w h) c n x m) across_alike
+      ap (λ (d : ℕ → ℕ → Float → Option Float). column_through d (confirm_horizontal a w h) n x m) down_alike
+      ∙ ap (λ (c : ℕ → ℕ → Float → Option Float). column_through (confirm_vertical b w h) c n x m) across_alike
 
   confirmed_same : (columns : Bool) (n : ℕ) (x m : Float) → confirmed_on a w h columns n x m ≡ confirmed_on b w h columns n x m
   unfolding confirmed_by

@@ -87,7 +87,14 @@ fn core_on(bits: &[u8], start: u32, stride: u32, len: u16, i: u16, module: f32) 
 }
 
 // The finder's y on column x, about row y.
-pub fn confirm_vertical(bits: &[u8], width: u16, height: u16, x: u32, y: u32, module: f32) -> Option<f32>
+pub fn confirm_vertical(
+    bits: &[u8],
+    width: u16,
+    height: u16,
+    x: u32,
+    y: u32,
+    module: f32,
+) -> Option<f32>
     ensures { result ≡ confirm_vertical bits.now width height x y «module» }
 {
     if binary::dark(bits, width as u32, height as u32, x, y) {

@@ -11,7 +11,7 @@ use Rattle.lists.specs.Lists.{Each, count, folded, sum_to, those, flat_map}
 use Rattle.binary.specs.Binary.{bit, dark_bit, dark_at}
 use Rattle.binary.specs.Line.{row, column}
 use Rattle.image.specs.Denoise.{inside, votes, denoised_at}
-use Rattle.confirm.specs.declared.Confirmed.TheVariants.{Nothing}
+use Rattle.std.specs.Prelude.{None}
 use Rattle.confirm.specs.Confirm.{core_of, vertical_by, horizontal_by, row_by, column_by, confirmed_by, confirmed_on}
 use Rattle.finders.specs.Held.{held}
 use Rattle.finders.specs.Hits.{Hit, line_hits}
@@ -59,7 +59,7 @@ flat_map_nothing f h [] = refl
 flat_map_nothing f h (x ∷ xs) = rw (h x, flat_map_nothing f h xs)
 
 module _ (b : List ℕ) (w h : ℕ) (e : Each (λ v. v ≡ 0) b) where
-  not_confirmed : (columns : Bool) (n : ℕ) (centre m : Float) → confirmed_on b w h columns n centre m ≡ Nothing
+  not_confirmed : (columns : Bool) (n : ℕ) (centre m : Float) → confirmed_on b w h columns n centre m ≡ None
   unfolding confirmed_by row_by column_by vertical_by horizontal_by
   not_confirmed true n centre m = simp (light_pixel b w h e)
   not_confirmed false n centre m = simp (light_pixel b w h e)

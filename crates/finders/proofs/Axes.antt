@@ -11,8 +11,8 @@ use Rattle.ratio.specs.Ratio.{match_of}
 use Rattle.ratio.specs.declared.Match.{Match}
 use Rattle.ratio.specs.declared.Match.TheVariants as match
 use Rattle.confirm.specs.Confirm.{core_of, confirmed_on}
-use Rattle.confirm.specs.declared.Confirmed.{Confirmed}
-use Rattle.confirm.specs.declared.Confirmed.TheVariants.{Point, Nothing}
+use Rattle.std.specs.Prelude.{Option, Some, None}
+use Rattle.transform.specs.declared.Point.{Point}
 use Rattle.finders.specs.declared.search.Line.{Line}
 use Rattle.finders.specs.Hits.{Hit, runs, hit_if, window, hits, line_hits}
 use Rattle.finders.specs.Held.{Sighting, Held, held, merge_next}
@@ -65,9 +65,9 @@ module _ (bits : List ℕ) (width height : ℕ) where
   seen_one : (columns : Bool) (n : ℕ) (h : Hit) → length (seen bits width height columns n h) ≤ 1
   seen_one columns n h = go (confirmed_on bits width height columns n h.centre h.pitch)
     where
-      go : (c : Confirmed) → length (sighting h.pitch c) ≤ 1
-      go (Point x y) = omega arith
-      go Nothing = omega arith
+      go : (c : Option Point) → length (sighting h.pitch c) ≤ 1
+      go (Some p) = omega arith
+      go None = omega arith
 
   sightings_few : (l : Line) → length (line_sightings bits width height l) ≤ l.len + 1
   sightings_few l =
@@ -107,13 +107,13 @@ module _ (bits : List ℕ) (width height : ℕ) where
         (lines_fine s (range 0 c) k f)
 
   -- ---- the first hit of several, confirmed or not
-  module _ (columns : Bool) (n : ℕ) (hs : List Hit) (h : Hit) (rest : List Hit) (is : hs ≡ h ∷ rest) (c : Confirmed) (z : c ≡ confirmed_on bits width height columns n h.centre h.pitch) where
-    pub sighted_first : (x y : Float) → c ≡ Point x y
-        → flat_map (seen bits width height columns n) hs ≡ record { x = x; y = y; pitch = h.pitch } ∷ flat_map (seen bits width height columns n) rest
+  module _ (columns : Bool) (n : ℕ) (hs : List Hit) (h : Hit) (rest : List Hit) (is : hs ≡ h ∷ rest) (c : Option Point) (z : c ≡ confirmed_on bits width height columns n h.centre h.pitch) where
+    pub sighted_first : (p : Point) → c ≡ Some p
+        → flat_map (seen bits width height columns n) hs ≡ record { x = p.x; y = p.y; pitch = h.pitch } ∷ flat_map (seen bits width height columns n) rest
     unfolding flat_map
-    sighted_first x y e = rw (is, ← z, e)
+    sighted_first p e = rw (is, ← z, e)
 
-    pub sighted_later : c ≡ Nothing → flat_map (seen bits width height columns n) hs ≡ flat_map (seen bits width height columns n) rest
+    pub sighted_later : c ≡ None → flat_map (seen bits width height columns n) hs ≡ flat_map (seen bits width height columns n) rest
     unfolding flat_map
     sighted_later e = rw (is, ← z, e)
 

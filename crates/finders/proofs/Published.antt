@@ -9,8 +9,8 @@ use Rattle.binary.specs.Line.{row, column}
 use Rattle.confirm.specs.Confirm.{core_of, counted_of}
 use Rattle.confirm.specs.Published.{counted_on, cut_on}
 use Rattle.confirm.proofs.Theorems.{cut_dropped}
-use Rattle.confirm.specs.declared.Confirmed.{Confirmed}
-use Rattle.confirm.specs.declared.Confirmed.TheVariants.{Point, Nothing}
+use Rattle.std.specs.Prelude.{Option, Some, None}
+use Rattle.transform.specs.declared.Point.{Point}
 use Rattle.finders.specs.Hits.{Hit, line_hits}
 use Rattle.finders.specs.Held.{Sighting, held, merge_next}
 use Rattle.finders.specs.Search.{max_finders, sighting, seen_by, row_sightings_by, column_sightings_by, sightings_by, found_by, sightings, found}
@@ -19,10 +19,10 @@ use Rattle.finders.proofs.Axes.{second_same}
 use Rattle.finders.specs.Published.{published_sightings, published_finders, published_refusal, published_answer, Uncut, NoneCut}
 
 -- a hit that is dropped where t, and that document 000 would confirm by c
-not_dropped : (m : Float) (t : Bool) (c : Confirmed) → ((x y : Float) → c ≡ Point x y → t ≡ false) → sighting m (cond t Nothing c) ≡ sighting m c
-not_dropped m t (Point x y) u = rw (u x y refl)
-not_dropped m true Nothing u = refl
-not_dropped m false Nothing u = refl
+not_dropped : (m : Float) (t : Bool) (c : Option Point) → ((p : Point) → c ≡ Some p → t ≡ false) → sighting m (cond t None c) ≡ sighting m c
+not_dropped m t (Some p) u = rw (u p refl)
+not_dropped m true None u = refl
+not_dropped m false None u = refl
 
 module _ (bits : List ℕ) (w h : ℕ) where
   seen_same : (columns : Bool) (n : ℕ) (t : Hit) → Uncut bits w h columns n t → seen_by core_of bits w h columns n t ≡ seen_by counted_of bits w h columns n t

@@ -1,10 +1,9 @@
 -- The search (document 01, "Finding and ranking": "Every second row from 0, then every second column from 0, is scanned"). Definitions only.
-use Rattle.std.specs.Prelude.{ℕ, ◌+◌, ◌*◌, ◌/◌, Bool, true, false, List, [], ◌∷◌, ◌++◌, Float}
+use Rattle.std.specs.Prelude.{ℕ, ◌+◌, ◌*◌, ◌/◌, Bool, true, false, List, [], ◌∷◌, ◌++◌, Float, Option, Some, None}
 use Rattle.lists.specs.Lists.{range, folded, flat_map}
 use Rattle.binary.specs.Line.{row, column}
 use Rattle.confirm.specs.Confirm.{Rule, core_of, confirmed_by}
-use Rattle.confirm.specs.declared.Confirmed.{Confirmed}
-use Rattle.confirm.specs.declared.Confirmed.TheVariants.{Point, Nothing}
+use Rattle.transform.specs.declared.Point.{Point}
 use Rattle.finders.specs.Hits.{Hit, line_hits}
 use Rattle.finders.specs.Held.{Sighting, Held, held, merge_next}
 
@@ -13,9 +12,9 @@ abbrev pub max_finders : ℕ
 max_finders = 128
 
 -- a hit of module m, where it is confirmed
-abbrev pub sighting : Float → Confirmed → List Sighting
-sighting m (Point x y) = record { x = x; y = y; pitch = m } ∷ []
-sighting m Nothing = []
+abbrev pub sighting : Float → Option Point → List Sighting
+sighting m (Some p) = record { x = p.x; y = p.y; pitch = m } ∷ []
+sighting m None = []
 
 -- f of every second number from 0 on below n
 abbrev pub every_second : {A : Type 0} → (ℕ → List A) → ℕ → List A

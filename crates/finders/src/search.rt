@@ -9,7 +9,7 @@ ghost use Rattle.finders.specs.Inner.{merged_of, held_of, Sound, NextIs, Sighted
 
 use crate::held::{Merged, merge_into};
 use binary::line::run_on;
-use confirm::{Confirmed, confirm_hit};
+use confirm::confirm_hit;
 use ratio::Match;
 
 // A line to scan: row or column `number`, its pixels `start`, `start + stride` and so on, `len` of them.
@@ -98,8 +98,8 @@ pub fn next_sighting(bits: &[u8], width: u16, height: u16, line: Line, w: Window
         match next_hit(bits, start, stride, len, v) {
             Next::Hit(centre, module, after) => {
                 match confirm_hit(bits, width, height, columns, number, centre, module) {
-                    Confirmed::Point(x, y) => return Sighted::At(x, y, module, after),
-                    Confirmed::Nothing => v = after,
+                    Some(p) => return Sighted::At(p.x, p.y, module, after),
+                    None => v = after,
                 }
             }
             Next::End => return Sighted::End,

@@ -22,13 +22,13 @@ loop-centre-init c = (c.requires.0, c.requires.1, omega arith, refl)
 pub next_hit-requires : goal.next_hit-requires
 next_hit-requires c = (c.loop-centre.invariant.0, c.loop-centre.invariant.1)
 
-pub returns-in-Point : goal.returns-in-Point
-returns-in-Point c =
+pub returns-in-Some : goal.returns-in-Some
+returns-in-Some c =
     let a = c.args in
     let l = c.loop-centre in
-    let m = next (goal.at.returns-in-Point c).In-Hit in
+    let m = next (goal.at.returns-in-Some c).In-Hit in
     let h : Hit = record { centre = c.in-Hit.centre; pitch = c.in-Hit.module } in (
-      l.invariant.3 ∙ sighted_first a.bits.now a.width a.height a.line.columns a.line.number _ h _ m.0 _ c.confirm_hit.ensures _ _ c.in-Point.is,
+      l.invariant.3 ∙ sighted_first a.bits.now a.width a.height a.line.columns a.line.number _ h _ m.0 _ c.confirm_hit.ensures _ c.in-Some.is,
       omega (arith, m.1, l.invariant.2),
       m.2,
       m.3,
@@ -46,7 +46,7 @@ loop-centre-preserved c =
       m.2,
       m.3,
       omega (arith, m.1, l.invariant.2),
-      l.invariant.3 ∙ sighted_later a.bits.now a.width a.height a.line.columns a.line.number _ h _ m.0 _ c.confirm_hit.ensures c.in-Nothing.is,
+      l.invariant.3 ∙ sighted_later a.bits.now a.width a.height a.line.columns a.line.number _ h _ m.0 _ c.confirm_hit.ensures c.in-None.is,
     )
 
 pub returns-in-End : goal.returns-in-End
