@@ -1,11 +1,13 @@
 -- Parts of records as they are read, and of answers as they are written, one after the other. Assumes nothing.
-use Rattle.std.proofs.Common.{◌≡◌, ℕ, suc, ◌+◌, ◌-◌, ◌*◌, ◌/◌, ◌%◌, ◌<◌, ◌≤◌, min, false, eqb, List, [], ◌∷◌, ◌++◌, length, get_or, take, drop, set, replicate, sym, refl, ap, ◌∙◌, ap₂, append-nil, add-zero, add-one, arith, length-append, length-set, length-take-le, take_all}
+use Rattle.std.proofs.Common.{◌≡◌, ℕ, zero, suc, ◌+◌, ◌-◌, ◌*◌, ◌/◌, ◌%◌, ◌<◌, ◌≤◌, min, false, eqb, List, [], ◌∷◌, ◌++◌, length, get_or, take, drop, set, replicate, sym, refl, ap, ◌∙◌, append-nil, add-zero, add-one, arith, length-append, take_all, ◌⊎◌, inl, inr}
+use Rattle.std.proofs.lemmas.Bool.{cases_lt}
+use Rattle.std.proofs.lemmas.List.{get_or-drop}
 use lib.Seq.{take-length, drop-length}
-use lib.Ieee.{Float, binary32, to_bits}
+use lib.Ieee.{binary32, binary64, to_bits, of_bits}
 use Rattle.lists.specs.Lists.{tabulate, filled, flat_map}
-use Rattle.lists.proofs.Tabulate.{filled_none, filled_step, filled_whole, length-tabulate}
+use Rattle.lists.proofs.Tabulate.{filled_whole, length-tabulate}
 use Rattle.lists.proofs.Folds.{flat_map-append}
-use Rattle.little_endian.specs.Bytes.{bytes_le, put}
+use Rattle.little_endian.specs.Bytes.{bytes_le, read_le, put}
 use Rattle.little_endian.proofs.Pieces.{put_then, length_flat}
 use Rattle.little_endian.proofs.Round.{length_bytes}
 use Rattle.transform.specs.declared.Point.{Point}
@@ -16,7 +18,7 @@ use Rattle.finders.specs.Answer.{held_in}
 use Rattle.candidates.specs.declared.Detection.{Detection}
 use Rattle.firmware.specs.Firmware.{single_bytes, double_bytes, finder_bytes, transform_bytes}
 use Rattle.firmware.proofs.Bytes.{length_double, length_finder, length_transform}
-use Rattle.record.specs.Record.{double_at, doubles_at, finder_at, finders_at, point_bytes, lens_bytes, finders_bytes, grade_bytes, digit_of, byte_digits, digits_line, most_bytes, answer_line, line_of}
+use Rattle.record.specs.Record.{double_at, finder_at, finders_at, point_bytes, lens_bytes, finders_bytes, grade_bytes, digit_of, byte_digits, digits_line, most_bytes, answer_line, line_of}
 
 -- ---- numbers
 
@@ -39,57 +41,40 @@ lens_is t i l =
     put_then 8 y k (i + 72) (i + 80) (put x (i + 64) m) (length_double t.cy) (omega arith) ∙ put_then 8 x (y ++ k) (i + 64) (i + 72) m (length_double t.cx) (omega arith)
     ∙ put_then 64 (transform_bytes t) (x ++ (y ++ k)) i (i + 64) l (length_transform t) refl
 
-pub eight_doubles : (p : List ℕ) (i : ℕ)
-    → double_at p i ∷ double_at p (i + 8) ∷ double_at p (i + 16) ∷ double_at p (i + 24) ∷ double_at p (i + 32) ∷ double_at p (i + 40) ∷ double_at p (i + 48) ∷ double_at p (i + 56) ∷ [] ≡ doubles_at 8 p i
-unfolding tabulate
-eight_doubles p i =
-    ap (λ z. double_at p z ∷ double_at p (i + 8) ∷ double_at p (i + 16) ∷ double_at p (i + 24) ∷ double_at p (i + 32) ∷ double_at p (i + 40) ∷ double_at p (i + 48) ∷ double_at p (i + 56) ∷ []) (sym (add-zero i))
+read_drop : (k : ℕ) (l : List ℕ) (n i : ℕ) → read_le k (drop n l) i ≡ read_le k l (n + i)
+unfolding read_le
+read_drop zero l n i = refl
+read_drop (suc k) l n i =
+    let e : n + (i + 1) ≡ n + i + 1 = omega arith in
+    rw (get_or-drop n l i 0, read_drop k l n (i + 1), e)
 
--- a table of n numbers from the front of a record, of which i are read
-abbrev pub Table : ℕ → List ℕ → List Float → List Float → ℕ → Type 0
-Table n p old a i = (i ≤ n) × (length a ≡ n) × (length old ≡ n) × (a ≡ filled i (λ k. double_at p (0 + 8 * k)) old)
-
-pub table_none : (n : ℕ) (p : List ℕ) (old : List Float) → length old ≡ n → Table n p old old 0
-table_none n p old e = (omega arith, e, e, filled_none (λ k. double_at p (0 + 8 * k)) old)
-
-pub table_more : (n : ℕ) (p : List ℕ) (old a : List Float) (i : ℕ) (v : Float) → i < n → Table n p old a i → v ≡ double_at p (8 * i) → Table n p old (set a i v) (i + 1)
-table_more n p old a i v h t e =
-    let m : i < length old = omega arith in
-    let z : 8 * i ≡ 0 + 8 * i = omega arith in
-    (omega arith, length-set a i v ∙ t.1, t.2, filled_step i (λ k. double_at p (0 + 8 * k)) old a v m t.3 (e ∙ ap (double_at p) z))
-
-pub table_all : (n : ℕ) (p : List ℕ) (old a : List Float) (i : ℕ) → n ≤ i → Table n p old a i → a ≡ doubles_at n p 0
-table_all n p old a i h t =
-    let m : i ≡ length old = omega arith in
-    filled_whole i (λ k. double_at p (0 + 8 * k)) old a m t.3 ∙ ap (λ z. doubles_at z p 0) t.2
+-- at the front of what follows n bytes
+pub double_behind : (p : List ℕ) (n : ℕ) → double_at (drop n p) 0 ≡ double_at p n
+double_behind p n = ap (of_bits binary64) (read_drop 8 p n 0 ∙ ap (read_le 8 p) (add-zero n))
 
 -- ---- finders
 
--- a table into which i finders are read
-abbrev pub Finding : List ℕ → ℕ → ℕ → List Finder → Finders → ℕ → Type 0
-Finding p at count old t i = (i ≤ 128) × (t.count ≡ count) × (length old ≡ 128) × (t.table ≡ filled i (λ k. finder_at p (at + 16 * k)) old)
-
-pub found_all : (p : List ℕ) (at count : ℕ) (old : List Finder) (t : Finders) (i : ℕ) → 128 ≤ i → Finding p at count old t i → t ≡ finders_at p at count
+-- a table into which all finders are read
+pub found_all : (p : List ℕ) (at count : ℕ) (old l : List Finder) (i : ℕ) → i ≡ 128 → length old ≡ 128 → l ≡ filled i (λ k. finder_at p (at + 16 * k)) old → record { count = count; table = l } ≡ finders_at p at count
 unfolding finders_at
-found_all p at count old t i h f =
-    let m : i ≡ length old = omega arith in
-    let e : t.table ≡ tabulate 128 (λ k. finder_at p (at + 16 * k)) = filled_whole i (λ k. finder_at p (at + 16 * k)) old t.table m f.3 ∙ ap (λ z. tabulate z (λ k. finder_at p (at + 16 * k))) f.2 in
-    ap₂ (λ (n : ℕ) (l : List Finder). record { count = n; table = l }) f.1 e
+found_all p at count old l i h n e =
+    ap (λ (z : List Finder). record { count = count; table = z }) (filled_whole i (λ k. finder_at p (at + 16 * k)) old l (h ∙ sym n) e ∙ ap (λ z. tabulate z (λ k. finder_at p (at + 16 * k))) n)
 
 -- the finders of a table are written, up to its count or its end
-pub held_all : (t : Finders) (i : ℕ) → 128 ≤ i → i ≤ t.count → length t.table ≡ 128 → take i t.table ≡ held_in t
-held_all t i h m e = take_all i t.table (omega arith) ∙ sym (take_all t.count t.table (omega arith))
+pub held_all : (t : Finders) (n : ℕ) → n ≡ min t.count 128 → length t.table ≡ 128 → take n t.table ≡ held_in t
+held_all t n h e = go (cases_lt t.count 128)
+  where
+    go : (t.count < 128) ⊎ (128 ≤ t.count) → take n t.table ≡ held_in t
+    go (inl q) = let m : n ≡ t.count = omega arith in ap (λ z. take z t.table) m
+    go (inr q) = take_all n t.table (omega arith) ∙ sym (take_all t.count t.table (omega arith))
 
-pub finders_are : (t : Finders) (i at : ℕ) (l : List ℕ) → take i t.table ≡ held_in t
-    → put (flat_map finder_bytes (take i t.table)) (at + 1) (set l at (t.count % 256)) ≡ put (finders_bytes t) at l
+pub finders_are : (t : Finders) (at : ℕ) (l : List ℕ) → put (flat_map finder_bytes (held_in t)) (at + 1) (set l at (t.count % 256)) ≡ put (finders_bytes t) at l
 unfolding bytes_le put
-finders_are t i at l e = ap (λ z. put (flat_map finder_bytes z) (at + 1) (set l at (t.count % 256))) e
+finders_are t at l = refl
 
-pub finders_end : (t : Finders) (i at : ℕ) → i ≤ length t.table → take i t.table ≡ held_in t → at + 1 + 16 * i ≡ at + length (finders_bytes t)
+pub finders_end : (t : Finders) (at : ℕ) → at + 1 + 16 * length (held_in t) ≡ at + length (finders_bytes t)
 unfolding bytes_le
-finders_end t i at h e =
-    let n : length (flat_map finder_bytes (held_in t)) ≡ 16 * i = ap (λ z. length (flat_map finder_bytes z)) (sym e) ∙ length_flat finder_bytes 16 length_finder (take i t.table) ∙ ap (λ z. 16 * z) (length-take-le i t.table h) in
-    omega (arith, n)
+finders_end t at = omega (arith, length_flat finder_bytes 16 length_finder (held_in t))
 
 -- ---- behind the first byte
 
@@ -140,11 +125,11 @@ spelled_more f l text i high low e p q =
     ∙ ap (λ bs. put bs 0 l) (sym (spelled_next f i)))
 
 -- the line feed
-pub spelled_end : (f : ℕ → ℕ) (l text : List ℕ) (i : ℕ) → text ≡ put (flat_map byte_digits (tabulate i f)) 0 l → set text (2 * i) 10 ≡ put (flat_map byte_digits (tabulate i f) ++ (10 ∷ [])) 0 l
+pub spelled_end : (f : ℕ → ℕ) (l text : List ℕ) (i n : ℕ) → i ≡ n → text ≡ put (flat_map byte_digits (tabulate i f)) 0 l → set text (2 * n) 10 ≡ put (flat_map byte_digits (tabulate n f) ++ (10 ∷ [])) 0 l
 unfolding put
-spelled_end f l text i e =
-    let z : 2 * i ≡ 0 + 2 * i = omega arith in
-    ap (λ t. set t (2 * i) 10) e ∙ put_then (2 * i) (flat_map byte_digits (tabulate i f)) (10 ∷ []) 0 (2 * i) l (length_spelled f i) z
+spelled_end f l text i n h e =
+    let z : 2 * n ≡ 0 + 2 * n = omega arith in
+    ap (λ t. set t (2 * n) 10) (e ∙ ap (λ m. put (flat_map byte_digits (tabulate m f)) 0 l) h) ∙ put_then (2 * n) (flat_map byte_digits (tabulate n f)) (10 ∷ []) 0 (2 * n) l (length_spelled f n) z
 
 -- ---- the line that answers a call
 

@@ -1,50 +1,34 @@
 -- Laws of lent slices: their lengths, what they hold, their hash and what is answered of them. Assumes nothing.
-use Rattle.std.proofs.Common.{◌≡◌, ℕ, zero, suc, ◌+◌, ◌-◌, ◌*◌, ◌/◌, ◌%◌, ◌^◌, ◌<◌, ◌≤◌, min, true, false, ltb, List, [], ◌∷◌, ◌++◌, length, get_or, take, drop, sym, refl, ap, ◌∙◌, append-nil, add-one, arith, length-append, length-drop, length-take-le, drop-cons, take_at, drop_at, le-ltb, lt-ltb}
+use Rattle.std.proofs.Common.{◌≡◌, ℕ, zero, suc, ◌+◌, ◌*◌, ◌/◌, ◌%◌, ◌^◌, ◌<◌, ◌≤◌, ◌⊎◌, inl, inr, add-zero, min, false, cond, ◌&&◌, leb, ltb, List, [], ◌∷◌, ◌++◌, length, take, drop, sym, refl, ap, ◌∙◌, append-nil, arith, length-append, length-drop, length-take-le, take_at, drop_at, le-ltb, lt-ltb}
 use native.Mathlib.Nat.{mod-add-mod, add-mul-mod_self_left, div-div-eq-div-mul}
-use lib.Seq.{drop-length}
+use Rattle.std.specs.List.{fold, list_all, range_with_len}
+use Rattle.std.proofs.lemmas.Bool.{cases_lt, le-leb, lt-leb}
 use Rattle.lists.specs.Lists.{flat_map, folded}
 use Rattle.lists.proofs.Tabulate.{length-tabulate}
 use Rattle.little_endian.specs.Bytes.{bytes_le, put}
 use Rattle.little_endian.proofs.Pieces.{put_then}
 use Rattle.little_endian.proofs.Round.{length_bytes}
-use Rattle.record.specs.Record.{longest, length_at, lendable_at, lent_bytes, hash_step, hash_of, slice_bytes}
+use Rattle.record.specs.Record.{longest, length_at, lendable_at, lent_bytes, hash_of, slice_bytes}
 
 -- ---- lengths that have room
 
-pub lendable_start : (p : List ℕ) (at n : ℕ) → lendable_at p at n ≡ lendable_at p (at + 0) (n - 0)
-lendable_start p at n =
-    let a : at + 0 ≡ at = omega arith in
-    let b : n - 0 ≡ n = omega arith in
-    rw (a, b)
-
--- one length more
-pub lendable_more : (p : List ℕ) (at n k v : ℕ) → k < n → v ≡ length_at p (at + 4 * k) → v ≤ longest → lendable_at p (at + 4 * k) (n - k) ≡ lendable_at p (at + 4 * (k + 1)) (n - (k + 1))
+-- as a test of each, from the k-th on
+lendable_each : (p : List ℕ) (at n k : ℕ) → list_all (λ i. leb (length_at p (at + 4 * i)) longest) (range_with_len k n) ≡ lendable_at p (at + 4 * k) n
 unfolding lendable_at
-lendable_more p at n k v h q g =
-    let e : ltb longest (length_at p (at + 4 * k)) ≡ false = rw (← q) (le-ltb longest v g) in
-    let m : n - k ≡ suc (n - (k + 1)) = omega arith in
-    let z : at + 4 * k + 4 ≡ at + 4 * (k + 1) = omega arith in
-    rw (m, e, z)
+lendable_each p at zero k = refl
+lendable_each p at (suc n) k =
+    let z : at + 4 * (k + 1) ≡ at + 4 * k + 4 = omega arith in
+    ap (λ b. leb (length_at p (at + 4 * k)) longest && b) (lendable_each p at n (k + 1) ∙ ap (λ i. lendable_at p i n) z) ∙ go (cases_lt longest (length_at p (at + 4 * k)))
+  where
+    go : (longest < length_at p (at + 4 * k)) ⊎ (length_at p (at + 4 * k) ≤ longest)
+        → (leb (length_at p (at + 4 * k)) longest && lendable_at p (at + 4 * k + 4) n) ≡ cond (ltb longest (length_at p (at + 4 * k))) false (lendable_at p (at + 4 * k + 4) n)
+    go (inl h) = rw (lt-leb (length_at p (at + 4 * k)) longest h, lt-ltb longest (length_at p (at + 4 * k)) h)
+    go (inr h) = rw (le-leb (length_at p (at + 4 * k)) longest h, le-ltb longest (length_at p (at + 4 * k)) h)
 
--- a length that has none
-pub lendable_not : (p : List ℕ) (at n k v : ℕ) → k < n → v ≡ length_at p (at + 4 * k) → longest < v → lendable_at p (at + 4 * k) (n - k) ≡ false
-unfolding lendable_at
-lendable_not p at n k v h q g =
-    let e : ltb longest (length_at p (at + 4 * k)) ≡ true = rw (← q) (lt-ltb longest v g) in
-    let m : n - k ≡ suc (n - (k + 1)) = omega arith in
-    rw (m, e)
-
-pub lendable_end : (p : List ℕ) (at n k : ℕ) → n ≤ k → lendable_at p (at + 4 * k) (n - k) ≡ true
-unfolding lendable_at
-lendable_end p at n k h = let m : n - k ≡ 0 = omega arith in rw m
+pub lendable_is : (p : List ℕ) (at n : ℕ) → list_all (λ i. leb (length_at p (at + 4 * i)) longest) (range_with_len 0 n) ≡ lendable_at p at n
+lendable_is p at n = lendable_each p at n 0 ∙ ap (λ i. lendable_at p i n) (add-zero at)
 
 -- ---- parts
-
-pub drop_past : (n : ℕ) (l : List ℕ) → length l ≤ n → drop n l ≡ []
-drop_past zero [] h = refl
-drop_past zero (x ∷ l) h = absurd (omega arith)
-drop_past (suc n) [] h = refl
-drop_past (suc n) (x ∷ l) h = drop_past n l (omega arith)
 
 -- a slice whose first n bytes were handed out
 pub kept_long : (n : ℕ) (l part : List ℕ) → n ≤ length l → length part ≡ length (take n l) → length (part ++ drop n l) ≡ length l
@@ -65,14 +49,10 @@ lent_whole n v s part q h e = let m : min v (length s) ≡ length s = omega arit
 
 -- ---- the hash
 
--- one byte more
-pub hash_more : (s : List ℕ) (w h v i d : ℕ) → i < length s → w ≡ folded hash_step h (drop i s) → v ≡ hash_step h (get_or s i d) → w ≡ folded hash_step v (drop (i + 1) s)
+pub folded_is : {S A : Type 0} (g : S → A → S) (s : S) (l : List A) → fold g s l ≡ folded g s l
 unfolding folded
-hash_more s w h v i d n e q = e ∙ ap (folded hash_step h) (drop-cons s i d n) ∙ rw (q, add-one i)
-
-pub hash_end : (s : List ℕ) (w h i : ℕ) → i ≡ length s → w ≡ folded hash_step h (drop i s) → h ≡ w
-unfolding folded
-hash_end s w h i n e = sym (e ∙ ap (λ z. folded hash_step h (drop z s)) n ∙ ap (folded hash_step h) (drop-length s))
+folded_is g s [] = refl
+folded_is g s (x ∷ l) = folded_is g (g s x) l
 
 -- times 2^40 + 435 modulo 2^64, from parts that a word holds
 pub product_is : (x : ℕ)

@@ -131,15 +131,13 @@ fn spell(out: &[u8; ANSWER], n: usize, text: &mut [u8]) -> usize
     ensures line { text.new ≡ put (digits_line n out.now) 0 text.old }
     ensures len { result ≡ 2 * n + 1 }
 {
-    let mut i = 0;
-    while i < n {
+    for i in 0..n {
         let b = out[i];
         text[2 * i] = digit(b / 16);
         text[2 * i + 1] = digit(b);
-        i += 1;
     }
-    text[2 * i] = 10;
-    2 * i + 1
+    text[2 * n] = b'\n';
+    2 * n + 1
 }
 
 // The line that answers a call by the first n bytes of out, or as many as there are: `-` for none.
@@ -149,10 +147,9 @@ pub fn answer_line(out: &[u8; ANSWER], n: usize) -> Line
     let mut text = [0u8; 4609];
     if n == 0 {
         text[0] = b'-';
-        text[1] = 10;
+        text[1] = b'\n';
         return Line { text, len: 2 };
     }
-    let most = if n < ANSWER { n } else { ANSWER };
-    let len = spell(out, most, &mut text);
+    let len = spell(out, n.min(ANSWER), &mut text);
     Line { text, len }
 }

@@ -38,14 +38,7 @@ fn length_at(p: &[u8], at: u32) -> usize
 pub fn lendable(p: &[u8], at: u16, slices: u8) -> bool
     ensures { result ≡ lendable_at p.now at slices }
 {
-    let mut i = 0;
-    while i < slices {
-        if LONGEST < length_at(p, at as u32 + 4 * i as u32) {
-            return false;
-        }
-        i += 1;
-    }
-    true
+    (0..slices).all(|i| length_at(p, at as u32 + 4 * i as u32) <= LONGEST)
 }
 
 // A slice to lend to a call: as many bytes as stand in a record, or as there are, filled. Left free is what s holds when it comes back: that is
@@ -66,10 +59,8 @@ pub fn lent<'a>(s: &'a mut [u8], p: &[u8], at: u32) -> &'a mut [u8]
 pub fn fill(s: &mut [u8])
     ensures { s.new ≡ lent_bytes (length s.old) }
 {
-    let mut i = 0;
-    while i < s.len() {
-        s[i] = (i % 251) as u8;
-        i += 1;
+    for (i, b) in s.iter_mut().enumerate() {
+        *b = (i % 251) as u8;
     }
 }
 
@@ -89,13 +80,7 @@ fn hashed(h: u64, b: u8) -> u64
 pub fn hash(s: &[u8]) -> u64
     ensures { result ≡ hash_of s.now }
 {
-    let mut h: u64 = 0xcbf2_9ce4_8422_2325;
-    let mut i = 0;
-    while i < s.len() {
-        h = hashed(h, s[i]);
-        i += 1;
-    }
-    h
+    s.iter().fold(0xcbf2_9ce4_8422_2325, |h, b| hashed(h, *b))
 }
 
 // A lent slice as a call left it: its length and its hash.

@@ -4,8 +4,9 @@ ghost use Rattle.little_endian.specs.Bytes.{put};
 ghost use Rattle.firmware.specs.Firmware.{single_bytes, double_bytes, finder_bytes, transform_bytes, firmware_bytes};
 ghost use Rattle.record.specs.Record.{float_at, double_at, doubles_at, point_at, transform_at, lens_at, finder_at, corners_at, finders_at, flag, point_bytes, doubles_bytes, lens_bytes, finders_bytes, detections_bytes, grade_bytes, grades_bytes, grades_at};
 
+use crate::slices::rest;
 use candidates::{Detection, Detections};
-use finders::Finders;
+use finders::{Finders, MAX_FINDERS};
 use geometry::{Corners, Finder};
 use transform::{Point, Transform};
 
@@ -47,50 +48,18 @@ pub fn put_flag(out: &mut [u8], at: u32, b: bool)
 pub fn put_doubles(out: &mut [u8], at: u16, x: [f64; 8])
     ensures { out.new ≡ put (doubles_bytes x) at out.old }
 {
-    let mut k = 0;
-    while k < 8 {
-        put_double(out, at as u32 + 8 * k as u32, x[k]);
-        k += 1;
+    for (k, v) in x.iter().enumerate() {
+        put_double(out, at as u32 + 8 * k as u32, *v);
     }
 }
 
-pub fn doubles_at(p: &[u8], at: u16) -> [f64; 8]
-    ensures { result ≡ doubles_at 8 p.now at }
+// N numbers, one after the other.
+pub fn doubles_at<const N: usize>(p: &[u8], at: u16) -> [f64; N]
+    ensures { result ≡ doubles_at N p.now at }
 {
-    let i = at as u32;
-    [
-        double_at(p, i),
-        double_at(p, i + 8),
-        double_at(p, i + 16),
-        double_at(p, i + 24),
-        double_at(p, i + 32),
-        double_at(p, i + 40),
-        double_at(p, i + 48),
-        double_at(p, i + 56),
-    ]
-}
-
-// The numbers at the front of a record.
-pub fn table36(p: &[u8]) -> [f64; 36]
-    ensures { result ≡ doubles_at 36 p.now 0 }
-{
-    let mut a = [0.0f64; 36];
-    let mut i = 0;
-    while i < 36 {
-        a[i] = double_at(p, 8 * i as u32);
-        i += 1;
-    }
-    a
-}
-
-pub fn table64(p: &[u8]) -> [f64; 64]
-    ensures { result ≡ doubles_at 64 p.now 0 }
-{
-    let mut a = [0.0f64; 64];
-    let mut i = 0;
-    while i < 64 {
-        a[i] = double_at(p, 8 * i as u32);
-        i += 1;
+    let mut a = [0.0; N];
+    for (k, x) in a.iter_mut().enumerate() {
+        *x = double_at(rest(p, at as usize + 8 * k), 0);
     }
     a
 }
@@ -186,11 +155,8 @@ pub fn finders_at(p: &[u8], at: u8, count: u32) -> Finders
 {
     let mut t = finders::no_finders();
     t.count = count as usize;
-    let mut i = 0;
-    while i < 128 {
-        let f = finder_at(p, at as u16 + 16 * i as u16);
-        t.table[i] = f;
-        i += 1;
+    for (i, f) in t.table.iter_mut().enumerate() {
+        *f = finder_at(p, at as u16 + 16 * i as u16);
     }
     t
 }
@@ -200,18 +166,12 @@ pub fn put_finders(out: &mut [u8], at: u8, t: Finders) -> usize
     ensures bytes { out.new ≡ put (finders_bytes t) at out.old }
     ensures next { result ≡ at + length (finders_bytes t) }
 {
-    let count = t.count;
-    little_endian::put8(out, at as u32, (count % 256) as u8);
-    let mut i = 0;
-    while i < 128 {
-        if count <= i {
-            return at as usize + 1 + 16 * i;
-        }
-        let f = t.table[i];
-        put_finder(out, at as u16 + 1 + 16 * i as u16, f);
-        i += 1;
+    let held = &t.table[..t.count.min(MAX_FINDERS)];
+    little_endian::put8(out, at as u32, (t.count % 256) as u8);
+    for (i, f) in held.iter().enumerate() {
+        put_finder(out, at as u16 + 1 + 16 * i as u16, *f);
     }
-    at as usize + 2049
+    at as usize + 1 + 16 * held.len()
 }
 
 // The count and the detections behind one byte.
@@ -235,11 +195,8 @@ fn put_grade(out: &mut [u8], at: u32, d: Detection)
 fn put_grades(out: &mut [u8], at: u16, t: Detections)
     ensures { out.new ≡ put (grades_bytes t) at out.old }
 {
-    let mut k = 0;
-    while k < 3 {
-        let d = t.at[k];
-        put_grade(out, at as u32 + 8 * k as u32, d);
-        k += 1;
+    for (k, d) in t.at.iter().enumerate() {
+        put_grade(out, at as u32 + 8 * k as u32, *d);
     }
 }
 

@@ -5,8 +5,7 @@ use record::values;
 use transform::{Quad, Transform, Triangle};
 
 fn solve6(p: &[u8], out: &mut [u8]) -> usize {
-    let b = values::doubles_at(p, 288);
-    let s = math::solve6(values::table36(p), [b[0], b[1], b[2], b[3], b[4], b[5]]);
+    let s = math::solve6(values::doubles_at(p, 0), values::doubles_at(p, 288));
     values::put_flag(out, 0, s.found);
     let x = s.x;
     values::put_doubles(out, 1, x);
@@ -14,7 +13,7 @@ fn solve6(p: &[u8], out: &mut [u8]) -> usize {
 }
 
 fn solve8(p: &[u8], out: &mut [u8]) -> usize {
-    let s = math::solve8(values::table64(p), values::doubles_at(p, 512));
+    let s = math::solve8(values::doubles_at(p, 0), values::doubles_at(p, 512));
     values::put_flag(out, 0, s.found);
     let x = s.x;
     values::put_doubles(out, 1, x);

@@ -1,12 +1,9 @@
 -- `record::spell` meets its contract. Assumes nothing.
-use Rattle.std.proofs.Common.{◌≡◌, ◌-◌, ◌≤◌, length, get_or}
+use Rattle.std.proofs.Common.{◌≡◌, length, get_or}
 use Rattle.lists.specs.Lists.{tabulate, flat_map}
 use Rattle.little_endian.specs.Bytes.{put}
 use Rattle.record.specs.Record.{byte_digits}
 use Rattle.record.proofs.spell.Given as goal
 
 abbrev pub invariant-loop-i : goal.invariant-loop-i
-invariant-loop-i l = (l.i ≤ l.n) × (length l.text ≡ 4609) × (length l.text ≡ length l.initial.text) × (l.text ≡ put (flat_map byte_digits (tabulate l.i (λ k. get_or l.out k 0))) 0 l.initial.text)
-
-abbrev pub decreases-loop-i : goal.decreases-loop-i
-decreases-loop-i l = l.n - l.i
+invariant-loop-i l = (length l.text ≡ 4609) × (l.text ≡ put (flat_map byte_digits (tabulate l.i (λ k. get_or l.out k 0))) 0 l.initial.text)

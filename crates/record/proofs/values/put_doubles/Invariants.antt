@@ -1,5 +1,5 @@
 -- `record::values::put_doubles` meets its contract. Assumes nothing.
-use Rattle.std.proofs.Common.{◌≡◌, ◌-◌, ◌≤◌, length, take}
+use Rattle.std.proofs.Common.{◌≡◌, take}
 use Rattle.transform.specs.Fit.{plain}
 use Rattle.lists.specs.Lists.{flat_map}
 use Rattle.little_endian.specs.Bytes.{put}
@@ -7,7 +7,4 @@ use Rattle.firmware.specs.Firmware.{double_bytes, numbers_of}
 use Rattle.record.proofs.values.put_doubles.Given as goal
 
 abbrev pub invariant-loop-k : goal.invariant-loop-k
-invariant-loop-k l = (l.k ≤ 8) × (length l.out ≡ length l.initial.out) × (l.out ≡ put (flat_map double_bytes (take l.k (numbers_of (plain l.x)))) l.at l.initial.out)
-
-abbrev pub decreases-loop-k : goal.decreases-loop-k
-decreases-loop-k l = 8 - l.k
+invariant-loop-k l = l.out ≡ put (flat_map double_bytes (take l.k (numbers_of (plain l.fn.x)))) l.at l.initial.out

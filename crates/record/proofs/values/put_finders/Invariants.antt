@@ -1,12 +1,9 @@
 -- `record::values::put_finders` meets its contract. Assumes nothing.
-use Rattle.std.proofs.Common.{◌≡◌, ◌+◌, ◌-◌, ◌≤◌, length, take}
+use Rattle.std.proofs.Common.{◌≡◌, ◌+◌, take}
 use Rattle.lists.specs.Lists.{flat_map}
 use Rattle.little_endian.specs.Bytes.{put}
 use Rattle.firmware.specs.Firmware.{finder_bytes}
 use Rattle.record.proofs.values.put_finders.Given as goal
 
 abbrev pub invariant-loop-i : goal.invariant-loop-i
-invariant-loop-i l = (l.i ≤ 128) × (l.i ≤ l.count) × (length l.out ≡ length l.initial.out) × (l.out ≡ put (flat_map finder_bytes (take l.i l.t.table)) (l.at + 1) l.initial.out)
-
-abbrev pub decreases-loop-i : goal.decreases-loop-i
-decreases-loop-i l = 128 - l.i
+invariant-loop-i l = l.out ≡ put (flat_map finder_bytes (take l.i l.held)) (l.at + 1) l.initial.out

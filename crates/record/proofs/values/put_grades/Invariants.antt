@@ -1,12 +1,9 @@
 -- `record::values::put_grades` meets its contract. Assumes nothing.
-use Rattle.std.proofs.Common.{◌≡◌, ◌-◌, ◌≤◌, length, take}
+use Rattle.std.proofs.Common.{◌≡◌, take}
 use Rattle.lists.specs.Lists.{flat_map}
 use Rattle.little_endian.specs.Bytes.{put}
 use Rattle.record.specs.Record.{grade_bytes}
 use Rattle.record.proofs.values.put_grades.Given as goal
 
 abbrev pub invariant-loop-k : goal.invariant-loop-k
-invariant-loop-k l = (l.k ≤ 3) × (length l.out ≡ length l.initial.out) × (l.out ≡ put (flat_map grade_bytes (take l.k l.t.at)) l.at l.initial.out)
-
-abbrev pub decreases-loop-k : goal.decreases-loop-k
-decreases-loop-k l = 3 - l.k
+invariant-loop-k l = l.out ≡ put (flat_map grade_bytes (take l.k l.fn.t.at)) l.at l.initial.out
