@@ -1,6 +1,6 @@
 -- Eight pixels at once. Assumes nothing.
-use mathlib.Core.Path.{◌≡◌, sym, ap, ◌∙◌}
-use mathlib.Core.Bool.{Bool}
+use mathlib.Core.Path.{◌≡◌, refl, sym, ap, ◌∙◌}
+use mathlib.Core.Bool.{Bool, true, false}
 use mathlib.Core.List.{List}
 use Prim.Native.Nat.{ℕ, ◌+◌, ◌*◌, ◌/◌, ◌%◌, ◌^◌, ◌<◌, ◌≤◌}
 use native.Mathlib.Nat.{mod-eq_of_lt, add_comm}
@@ -10,12 +10,19 @@ use lib.ListN.{length, set}
 use lib.Dec.{ltb}
 use lib.Pow.{high, low, pow_mono}
 use Rattle.lists.proofs.Tabulate.{filled_step}
+use Rattle.std.specs.Int.{from_bool}
 use Rattle.binary.specs.Binary.{bit, word, byte_of}
 use Rattle.binary.specs.Writing.{Written}
 use Rattle.binary.proofs.Bits.{word_bound, word_low}
 use Rattle.binary.proofs.Words.{word-append, word_same}
 use Rattle.blocks.specs.Blocks.{at}
 use Rattle.binarize.specs.Splits.{byte_of_eight, rest_of_eight}
+
+-- a test as a number
+pub from_is : (b : Bool) → from_bool b ≡ bit b
+unfolding bit
+from_is true = refl
+from_is false = refl
 
 -- one pixel of eight more
 pub word_next : (p : ℕ → Bool) (s i acc v : ℕ) → i < 8 → acc ≡ word p s i → v ≡ bit (p (s + i)) → acc % 128 * 2 + v ≡ word p s (i + 1)

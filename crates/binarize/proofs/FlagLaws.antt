@@ -1,14 +1,17 @@
 -- Flags of columns, and the level where no column about a block is flagged. Assumes nothing.
 use mathlib.Core.Path.{◌≡◌, refl, sym, ap, ◌∙◌, subst}
-use mathlib.Core.Bool.{Bool, true, false, cond}
+use mathlib.Core.Bool.{Bool, true, false, true≢false, cond}
 use mathlib.Core.List.{List, [], map}
 use Prim.Native.Nat.{ℕ, ◌+◌, ◌-◌, ◌*◌, ◌≤◌, ◌<◌, min}
 use native.Mathlib.Nat.{add-zero}
 use native.Mathlib.Omega.{arith}
-use lib.ListN.{length, drop, get_or}
+use lib.ListN.{length, take, drop, get_or}
+use Rattle.std.specs.List.{list_all}
+use Rattle.std.proofs.lemmas.List.Folds.{list_all_at}
+use Rattle.std.proofs.Common.{get_or-take, length-take, length-drop}
 use lib.Seq.{get_or-append-add, get_or-drop}
 use lib.Dec.{eqb, ltb}
-use borrow.Author.Tests.{ltb-true, ltb-false}
+use borrow.Author.Tests.{eqb-true, ltb-true, ltb-false}
 use Rattle.lists.specs.Lists.{tabulate, filled}
 use Rattle.lists.proofs.Tabulate.{length-tabulate, length-filled, get_or-filled}
 use Rattle.lists.proofs.Filters.{those-none}
@@ -26,16 +29,22 @@ filled_rest n f d l q =
 pub row-length : (w : ℕ) (f : ℕ → ℕ) (old new : List ℕ) → new ≡ filled w f old → w ≤ length old → length new ≡ length old
 row-length w f old new q h = ap length q ∙ length-filled w f old h
 
--- one more that is zero
-pub zero_more : (flags : List ℕ) (a x : ℕ) → ((k : ℕ) → a ≤ k → k < x → at flags k ≡ 0) → at flags x ≡ 0 → (k : ℕ) → a ≤ k → k < x + 1 → at flags k ≡ 0
-zero_more flags a x h z k p q = go (ltb k x) refl
+-- where all from a on below b are zero, each is
+pub all_zero : (flags : List ℕ) (a b : ℕ) → b ≤ length flags → list_all (λ (f : ℕ). eqb f 0) (take (b - a) (drop a flags)) ≡ true
+    → (x : ℕ) → a ≤ x → x < b → at flags x ≡ 0
+all_zero flags a b room e x p q = go (eqb (at flags x) 0) refl
   where
-    go : (v : Bool) → ltb k x ≡ v → at flags k ≡ 0
-    go true e = h k p (ltb-true k x e)
-    go false e =
-        let l = ltb-false k x e in
-        let s : x ≡ k = omega arith in
-        subst (λ (i : ℕ). at flags i ≡ 0) s z
+    there : get_or (take (b - a) (drop a flags)) (x - a) 0 ≡ at flags x
+    there =
+        let k : a + (x - a) ≡ x = omega arith in
+        let l : x - a < b - a = omega arith in
+        rw (get_or-take, get_or-drop, k)
+
+    go : (v : Bool) → eqb (at flags x) 0 ≡ v → at flags x ≡ 0
+    go true h = eqb-true _ _ h
+    go false h =
+        let l : x - a < length (take (b - a) (drop a flags)) = simp (length-take, length-drop) (omega arith) in
+        absurd (true≢false (sym e ∙ list_all_at (λ (f : ℕ). eqb f 0) (take (b - a) (drop a flags)) (x - a) 0 l (ap (λ (v : ℕ). eqb v 0) there ∙ h)))
 
 flagged-zero : (m f : ℕ) → flagged m f ≡ 0 → (eqb m 1 ≡ false) × (f ≡ 0)
 unfolding flagged

@@ -2,66 +2,66 @@
 use mathlib.Core.Path.{◌≡◌, refl, sym, ap, ◌∙◌}
 use mathlib.Core.Bool.{Bool, true, false, cond, ◌||◌}
 use mathlib.Core.List.{List, [], ◌∷◌, map, append-nil}
-use mathlib.Core.Logic.{◌⊎◌, inl, inr}
-use Prim.Native.Nat.{ℕ, zero, suc, ◌+◌, ◌-◌, ◌*◌, ◌/◌, ◌%◌, ◌≤◌, ◌<◌, min}
-use native.Mathlib.Nat.{mul-le-mul_right, eq-or-lt_of_le, le_of_suc-le-suc}
+use Prim.Native.Nat.{ℕ, zero, suc, ◌+◌, ◌-◌, ◌*◌, ◌/◌, ◌%◌, ◌≤◌, ◌<◌}
+use native.Mathlib.Nat.{add-zero, mul-le-mul_right}
 use native.Mathlib.Numerals.{add-one}
 use native.Mathlib.Omega.{arith}
-use lib.ListN.{length}
+use lib.ListN.{length, take}
 use lib.Dec.{eqb, ltb}
-use borrow.Author.Tests.{eq-eqb, ne_eqb, lt-ltb}
+use borrow.Author.Tests.{lt-ltb}
+use Rattle.std.specs.Prelude.{Option, Some, None, unwrap_or}
+use Rattle.std.specs.List.{list_any}
+use Rattle.std.proofs.lemmas.List.Folds.{list_any_more}
 use Rattle.lists.specs.Lists.{count, range, flat_map, how_many}
 use Rattle.lists.proofs.Numbers.{mul_bound}
 use Rattle.lists.proofs.Filters.{how_many-append}
 use Rattle.lists.proofs.Folds.{range_more}
 use Rattle.blocks.specs.Blocks.{mean, at, cells, about}
+use Rattle.blocks.specs.declared.rect.Rect.{Rect}
+use Rattle.blocks.specs.Rects.{IsAbout}
 use Rattle.binarize.specs.declared.levels.Split.{Split}
-use Rattle.binarize.specs.declared.levels.Level.{Level}
-use Rattle.binarize.specs.declared.levels.Level.TheVariants.{At, Nothing}
 use Rattle.binarize.specs.Levels.{midway, level, first_level, marked, marked_means, any_marked, chosen, global_level, window, window_level}
-use Rattle.binarize.specs.Splits.{level_of, or_else, Tallied, InGrid, Grid}
+use Rattle.binarize.specs.Splits.{level_of, Tallied, InGrid}
 
 -- ---- the level of a list of means
 
-pub level-none : (l : List ℕ) → length l ≡ 0 → Nothing ≡ level_of l
+pub level-none : (l : List ℕ) → length l ≡ 0 → None ≡ level_of l
 level-none [] e = refl
 level-none (x ∷ l) e = absurd (omega arith)
 
 pub level_some : (l : List ℕ) (m v : ℕ) (t : Split) → (length l ≡ 0 → ⊥) → m ≡ mean l → Tallied l m t
-    → v ≡ cond (eqb t.lows 0 || eqb t.highs 0) m ((t.low / t.lows + t.high / t.highs) / 2) → At v ≡ level_of l
+    → v ≡ cond (eqb t.lows 0 || eqb t.highs 0) m ((t.low / t.lows + t.high / t.highs) / 2) → Some v ≡ level_of l
 unfolding level midway
 level_some [] m v t some e h q = absurd (some refl)
-level_some (x ∷ l) m v t some e h q = ap At (q ∙ rw (h.low, h.lows, h.high, h.highs, e) refl)
+level_some (x ∷ l) m v t some e h q = ap Some (q ∙ rw (h.low, h.lows, h.high, h.highs, e) refl)
 
-first_step : (l : List ℕ) (windows : List (List ℕ)) (other : ℕ) → first_level (l ∷ windows) other ≡ or_else (level_of l) (first_level windows other)
+first_step : (l : List ℕ) (windows : List (List ℕ)) (other : ℕ) → first_level (l ∷ windows) other ≡ unwrap_or (level_of l) (first_level windows other)
 first_step [] windows other = refl
 first_step (v ∷ l) windows other = refl
 
 first_of_four : (a b c d : List ℕ) (other : ℕ)
-    → first_level (a ∷ b ∷ c ∷ d ∷ []) other ≡ or_else (level_of a) (or_else (level_of b) (or_else (level_of c) (or_else (level_of d) other)))
+    → first_level (a ∷ b ∷ c ∷ d ∷ []) other ≡ unwrap_or (level_of a) (unwrap_or (level_of b) (unwrap_or (level_of c) (unwrap_or (level_of d) other)))
 first_of_four a b c d other =
     first_step a (b ∷ c ∷ d ∷ []) other
-    ∙ ap (or_else (level_of a)) (first_step b (c ∷ d ∷ []) other ∙ ap (or_else (level_of b)) (first_step c (d ∷ []) other ∙ ap (or_else (level_of c)) (first_step d [] other)))
+    ∙ ap (unwrap_or (level_of a)) (first_step b (c ∷ d ∷ []) other ∙ ap (unwrap_or (level_of b)) (first_step c (d ∷ []) other ∙ ap (unwrap_or (level_of c)) (first_step d [] other)))
 
-first_of_one : (l : List ℕ) (other : ℕ) → first_level (l ∷ []) other ≡ or_else (level_of l) other
+first_of_one : (l : List ℕ) (other : ℕ) → first_level (l ∷ []) other ≡ unwrap_or (level_of l) other
 first_of_one l other = first_step l [] other
 
 -- ---- windows within the grid
 
-pub in_grid : (len bw bh x y r : ℕ) → Grid len bw bh x y → InGrid len bw (x - r) (min bw (x + r + 1)) (y - r) (min bh (y + r + 1))
-in_grid len bw bh x y r g =
-    let rows = mul-le-mul_right {m = min bh (y + r + 1)} {n = bh} bw (omega arith) in
+pub in_grid : (len bw bh x y d : ℕ) (r : Rect) → bw ≤ 512 → bh ≤ 512 → bh * bw ≤ len → IsAbout bw bh x y d r → InGrid len bw r
+in_grid len bw bh x y d r wide high all e =
+    let rows = mul-le-mul_right {m = r.bottom} {n = bh} bw (omega arith) in
     record {
-      left = omega (arith, g.col);
-      top = omega (arith, g.row);
       cols = omega arith;
-      all = omega (arith, g.all);
-      few = omega (arith, mul_bound bh bw 512 512 g.high g.wide);
+      all = omega arith;
+      few = omega (arith, mul_bound bh bw 512 512 high wide);
     }
 
 -- all n blocks, as one row
-pub one_row : (len n : ℕ) → n ≤ len → n ≤ 262144 → InGrid len n 0 n 0 1
-one_row len n all few = record { left = omega arith; top = omega arith; cols = omega arith; all = omega arith; few = omega arith }
+pub one_row : (len n : ℕ) (r : Rect) → r.right ≡ n → r.bottom ≡ 1 → n ≤ len → n ≤ 262144 → InGrid len n r
+one_row len n r e q all few = record { cols = omega arith; all = rw q (omega arith); few = rw q (omega arith) }
 
 same_row : (n : ℕ) (xs : List ℕ) → map (λ x. 0 * n + x) xs ≡ xs
 same_row n [] = refl
@@ -83,20 +83,27 @@ module _ (mark : ℕ → ℕ) where
   unfolding how_many
   many_more n = ap (how_many (marked mark)) (range_more 0 n (omega arith)) ∙ how_many-append (marked mark) (range 0 n) (n ∷ [])
 
-  some_marked : (n i : ℕ) → i < n → mark i ≡ 1 → 0 < how_many (marked mark) (range 0 n)
-  some_marked zero i h e = absurd (omega arith)
-  some_marked (suc n) i h e = rw many_more (go (some_marked n i) (eq-or-lt_of_le (le_of_suc-le-suc h)))
-    where
-      go : (i < n → mark i ≡ 1 → 0 < how_many (marked mark) (range 0 n)) → (i ≡ n) ⊎ (i < n) → 0 < how_many (marked mark) (range 0 n) + cond (eqb (mark n) 1) 1 0
-      go ih (inl q) = let f = ap mark (sym q) ∙ e in simp (eq-eqb (mark n) 1 f) (omega arith)
-      go ih (inr q) = omega (arith, ih q e)
+any_more : (n : ℕ) (b : Bool) → ltb 0 (n + cond b 1 0) ≡ ltb 0 n || b
+any_more n true = lt-ltb 0 (n + 1) (omega arith) ∙ sym (with_true (ltb 0 n))
+  where
+    with_true : (b : Bool) → b || true ≡ true
+    with_true true = refl
+    with_true false = refl
+any_more n false = ap (ltb 0) (add-zero n) ∙ with_false (ltb 0 n)
+  where
+    with_false : (b : Bool) → b ≡ b || false
+    with_false true = refl
+    with_false false = refl
 
-  pub any_found : (n i : ℕ) → i < n → mark i ≡ 1 → true ≡ any_marked mark n
-  any_found n i h e = sym (lt-ltb 0 (how_many (marked mark) (range 0 n)) (some_marked n i h e))
-
-  -- none so far, and none here
-  pub none_more : (i : ℕ) → how_many (marked mark) (range 0 i) ≡ 0 → (mark i ≡ 1 → ⊥) → how_many (marked mark) (range 0 (i + 1)) ≡ 0
-  none_more i e f = rw (add-one i, many_more i, e) (simp (ne_eqb (mark i) 1 f))
+-- what the library's `any` says of the first n
+pub any_is : (marks : List ℕ) (n : ℕ) → n ≤ length marks → list_any (λ (m : ℕ). eqb m 1) (take n marks) ≡ any_marked (at marks) n
+unfolding how_many count
+any_is marks zero h = refl
+any_is marks (suc n) h =
+    let ih = any_is marks n (omega arith) in
+    rw (← add-one n) (list_any_more (λ (m : ℕ). eqb m 1) marks n 0 (omega arith))
+    ∙ ap (λ (b : Bool). b || eqb (at marks n) 1) ih
+    ∙ sym (ap (ltb 0) (many_more (at marks) n) ∙ any_more (how_many (marked (at marks)) (range 0 n)) (eqb (at marks n) 1))
 
 -- ---- the global level
 
@@ -104,26 +111,26 @@ at-cond : (b : Bool) (e n : List ℕ) → at (cond b e n) ≡ cond b (at e) (at 
 at-cond true e n = refl
 at-cond false e n = refl
 
-pub global_is : (means edges nears marks : List ℕ) (bw bh : ℕ) (r : Level) → marks ≡ cond (any_marked (at edges) (bh * bw)) edges nears
-    → r ≡ level_of (marked_means (at means) (at marks) (cells (bh * bw) (range 0 (bh * bw)) (range 0 1))) → or_else r 0 ≡ global_level (at means) (at edges) (at nears) bw bh
+pub global_is : (means edges nears marks : List ℕ) (bw bh : ℕ) (r : Option ℕ) → marks ≡ cond (any_marked (at edges) (bh * bw)) edges nears
+    → r ≡ level_of (marked_means (at means) (at marks) (cells (bh * bw) (range 0 (bh * bw)) (range 0 1))) → unwrap_or r 0 ≡ global_level (at means) (at edges) (at nears) bw bh
 unfolding global_level
 global_is means edges nears marks bw bh r e q =
     let n = bh * bw in
     let all : level_of (marked_means (at means) (at marks) (cells n (range 0 n) (range 0 1))) ≡ level_of (marked_means (at means) (chosen (at edges) (at nears) n) (range 0 n)) =
     rw (one_row-cells n (range 0 n), e, at-cond (any_marked (at edges) n) edges nears)
     in
-    ap (λ (l : Level). or_else l 0) (q ∙ all) ∙ sym (first_of_one (marked_means (at means) (chosen (at edges) (at nears) n) (range 0 n)) 0)
+    ap (λ (l : Option ℕ). unwrap_or l 0) (q ∙ all) ∙ sym (first_of_one (marked_means (at means) (chosen (at edges) (at nears) n) (range 0 n)) 0)
 
 -- ---- the windows of a block in their order: kinds 0 to 3
 
 module _ (means edges nears : List ℕ) (bw bh x y global : ℕ) where
-  abbrev pub kind_level : ℕ → Level
+  abbrev pub kind_level : ℕ → Option ℕ
   kind_level k = level_of (marked_means (at means) (at (cond (ltb k 2) edges nears)) (cells bw (about bw x (2 + k % 2 * 2)) (about bh y (2 + k % 2 * 2))))
 
   -- the last n kinds
   rest : ℕ → ℕ
   rest zero = global
-  rest (suc n) = or_else (kind_level (3 - n)) (rest n)
+  rest (suc n) = unwrap_or (kind_level (3 - n)) (rest n)
 
   -- those from kind k on
   pub from : ℕ → ℕ
@@ -140,15 +147,15 @@ module _ (means edges nears : List ℕ) (bw bh x y global : ℕ) where
   unfolding from
   from_last k e = rw e
 
-  next : (k : ℕ) → k < 4 → from k ≡ or_else (kind_level k) (from (k + 1))
+  next : (k : ℕ) → k < 4 → from k ≡ unwrap_or (kind_level k) (from (k + 1))
   unfolding from
   next k h =
       let e : 4 - k ≡ suc (4 - (k + 1)) = omega arith in
       let q : 3 - (4 - (k + 1)) ≡ k = omega arith in
       rw (e, q)
 
-  pub from_found : (k v : ℕ) → k < 4 → kind_level k ≡ At v → from k ≡ v
-  from_found k v h e = next k h ∙ ap (λ (l : Level). or_else l (from (k + 1))) e
+  pub from_found : (k v : ℕ) → k < 4 → kind_level k ≡ Some v → from k ≡ v
+  from_found k v h e = next k h ∙ ap (λ (l : Option ℕ). unwrap_or l (from (k + 1))) e
 
-  pub from_missed : (k : ℕ) → k < 4 → kind_level k ≡ Nothing → from k ≡ from (k + 1)
-  from_missed k h e = next k h ∙ ap (λ (l : Level). or_else l (from (k + 1))) e
+  pub from_missed : (k : ℕ) → k < 4 → kind_level k ≡ None → from k ≡ from (k + 1)
+  from_missed k h e = next k h ∙ ap (λ (l : Option ℕ). unwrap_or l (from (k + 1))) e

@@ -1,21 +1,16 @@
 -- The loops over a window, as folds, eight pixels at once, and what is known where they run. For contracts of inner functions, and for proofs.
-use Rattle.std.specs.Prelude.{ℕ, ◌+◌, ◌*◌, ◌/◌, ◌%◌, ◌^◌, ◌≤◌, ◌<◌, ◌≡◌, cond, List, [], ◌∷◌, length, eqb, leb, ltb}
+use Rattle.std.specs.Prelude.{ℕ, ◌+◌, ◌*◌, ◌/◌, ◌%◌, ◌^◌, ◌≤◌, ◌≡◌, cond, Option, None, Some, List, [], ◌∷◌, length, eqb, leb, ltb}
 use Rattle.lists.specs.Lists.{range, folded, those}
 use Rattle.binary.specs.Binary.{bytes_of}
+use Rattle.blocks.specs.declared.rect.Rect.{Rect}
 use Rattle.blocks.specs.Blocks.{sum, blocks_refusal}
 use Rattle.binarize.specs.declared.levels.Split.{Split}
-use Rattle.binarize.specs.declared.levels.Level.{Level}
-use Rattle.binarize.specs.declared.levels.Level.TheVariants.{At, Nothing}
 use Rattle.binarize.specs.Levels.{level}
 
 -- the level of a window, or none where it holds no marked block
-abbrev pub level_of : List ℕ → Level
-level_of [] = Nothing
-level_of (v ∷ l) = At (level (v ∷ l))
-
-abbrev pub or_else : Level → ℕ → ℕ
-or_else (At v) other = v
-or_else Nothing other = other
+abbrev pub level_of : List ℕ → Option ℕ
+level_of [] = None
+level_of (v ∷ l) = Some (level (v ∷ l))
 
 -- one mean more
 abbrev pub with_mean : ℕ → Split → ℕ → Split
@@ -58,21 +53,11 @@ pub record Bounded (n : ℕ) (t : Split) : Type 0 where
   pub high : t.high ≤ 255 * t.highs
   pub most : t.lows + t.highs ≤ n
 
--- columns a to b and rows c to d lie within rows of w, of which a list of len values has all, and there are at most 512 × 512
-pub record InGrid (len w a b c d : ℕ) : Type 0 where
-  pub left : a ≤ b
-  pub top : c ≤ d
-  pub cols : b ≤ w
-  pub all : d * w ≤ len
-  pub few : d * w ≤ 262144
-
--- the block in column x and row y of bw × bh blocks, of which a list of len values has all
-pub record Grid (len bw bh x y : ℕ) : Type 0 where
-  pub wide : bw ≤ 512
-  pub high : bh ≤ 512
-  pub col : x < bw
-  pub row : y < bh
-  pub all : bh * bw ≤ len
+-- a window lies within rows of w, of which a list of len values has all, and there are at most 512 × 512
+pub record InGrid (len w : ℕ) (r : Rect) : Type 0 where
+  pub cols : r.right ≤ w
+  pub all : r.bottom * w ≤ len
+  pub few : r.bottom * w ≤ 262144
 
 -- eight pixels b after n, of which the last n mod 8 stand in acc: the byte that is complete, and the bits that are left
 abbrev pub byte_of_eight : ℕ → ℕ → ℕ → ℕ

@@ -1,12 +1,14 @@
 // Columns without marks: the windows about most blocks of most pictures hold no marked one, and their level is the global one.
-ghost use Rattle.std.specs.Prelude.{◌≡◌, true, ℕ, ◌+◌, ◌-◌, ◌*◌, ◌≤◌, ◌<◌, min, length};
+ghost use Rattle.std.specs.Prelude.{◌≡◌, ◌==◌, ◌+◌, ◌-◌, ◌≤◌, ◌<◌, min, length};
+ghost use Rattle.std.specs.List.{list_all};
 ghost use Rattle.lists.specs.Lists.{filled};
 ghost use Rattle.blocks.specs.Blocks.{at};
 ghost use Rattle.binarize.specs.Levels.{window_level};
-ghost use Rattle.binarize.specs.Splits.{Grid};
 ghost use Rattle.binarize.specs.Flags.{flagged, Flagged};
 
-use super::levels::{begins, block_level, ends};
+use super::grid::Grid;
+use super::levels::block_level;
+use blocks::rect::Rect;
 
 // 1 where a block is marked, otherwise the flag as it was.
 fn flag_with(mark: u8, flag: u8) -> u8
@@ -20,59 +22,38 @@ fn flag_row(marks: &[u8], from: usize, w: usize, flags: &mut [u8])
     requires { (from + w ≤ length marks.now) × (w ≤ length flags.old) }
     ensures { flags.new ≡ filled w (λ x. flagged (at marks.now (from + x)) (at flags.old x)) flags.old }
 {
-    let mut x = 0;
-    while x < w {
+    for x in 0..w {
         flags[x] = flag_with(marks[from + x], flags[x]);
-        x += 1;
     }
 }
 
-// Flags the columns that have an edge mark or a near mark in the rows c to d.
-pub fn flag_columns(edges: &[u8], nears: &[u8], w: usize, c: usize, d: usize, flags: &mut [u8])
-    requires { (c ≤ d) × (d ≤ 512) × (w ≤ 512) × (d * w ≤ length edges.now) × (d * w ≤ length nears.now) × (w ≤ length flags.old) }
-    ensures { Flagged (at edges.now) (at nears.now) w c d flags.new }
+// Flags the columns that have an edge mark or a near mark in the rows `top` to `bottom`.
+pub fn flag_columns(grid: Grid, top: usize, bottom: usize, flags: &mut [u8])
+    requires { (top ≤ bottom) × (bottom ≤ grid.height) × (grid.width ≤ length flags.old) }
+    ensures { let g = grid.entry in Flagged (at g.edges.now) (at g.nears.now) g.width top bottom flags.new }
 {
-    let mut y = c;
-    while y < d {
-        flag_row(edges, y * w, w, flags);
-        flag_row(nears, y * w, w, flags);
-        y += 1;
+    for y in top..bottom {
+        flag_row(grid.edges, y * grid.width, grid.width, flags);
+        flag_row(grid.nears, y * grid.width, grid.width, flags);
     }
 }
 
-// Whether none of the columns a to b is flagged.
-fn none_flagged(flags: &[u8], a: usize, b: usize) -> bool
-    requires { b ≤ length flags.now }
-    ensures { result ≡ true → (x : ℕ) → a ≤ x → x < b → at flags.now x ≡ 0 }
+// Whether no column is flagged.
+fn none_flagged(flags: &[u8]) -> bool
+    ensures { result ≡ list_all (λ flag. flag == 0) flags.now }
 {
-    let mut x = a;
-    while x < b {
-        if flags[x] != 0 {
-            return false;
-        }
-        x += 1;
-    }
-    true
+    flags.iter().all(|flag| *flag == 0)
 }
 
 // The level of the block in column x and row y, where the columns with marks in the rows about it are flagged.
-pub fn level_by<'a>(
-    means: &[u8],
-    edges: &'a [u8],
-    nears: &'a [u8],
-    bw: usize,
-    bh: usize,
-    x: usize,
-    y: usize,
-    global: u8,
-    flags: &[u8],
-) -> u8
-    requires { Grid (length means.now) bw bh x y × Grid (length edges.now) bw bh x y × Grid (length nears.now) bw bh x y
-        × (bw ≤ length flags.now) × Flagged (at edges.now) (at nears.now) bw (y - 4) (min bh (y + 4 + 1)) flags.now }
-    ensures { result ≡ window_level (at means.now) (at edges.now) (at nears.now) bw bh x y global }
+pub fn level_by(grid: Grid, x: usize, y: usize, global: u8, flags: &[u8]) -> u8
+    requires { (x < grid.width) × (y < grid.height) × (grid.width ≤ length flags.now)
+        × Flagged (at grid.edges.now) (at grid.nears.now) grid.width (y - 4) (min grid.height (y + 4 + 1)) flags.now }
+    ensures { let g = grid.entry in result ≡ window_level (at g.means.now) (at g.edges.now) (at g.nears.now) g.width g.height x y global }
 {
-    if none_flagged(flags, begins(x, 4), ends(bw, x, 4)) {
+    let near = Rect::about(grid.width, grid.height, x, y, 4);
+    if none_flagged(&flags[near.left..near.right]) {
         return global;
     }
-    block_level(means, edges, nears, bw, bh, x, y, global)
+    block_level(grid, x, y, global)
 }

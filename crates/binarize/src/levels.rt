@@ -1,20 +1,17 @@
 // Levels of windows of blocks.
-ghost use Rattle.std.specs.Prelude.{◌≡◌, cond, ◌||◌, ℕ, ◌+◌, ◌-◌, ◌*◌, ◌/◌, ◌≤◌, ◌<◌, min, length, eqb, leb, ltb};
+ghost use Rattle.std.specs.Prelude.{◌≡◌, ◌==◌, cond, ◌||◌, ℕ, ◌+◌, ◌-◌, ◌*◌, ◌/◌, ◌≤◌, ◌<◌, length, eqb, ltb};
+ghost use Rattle.std.specs.List.{list_any};
 ghost use Rattle.lists.specs.Lists.{range, folded};
-ghost use Rattle.binary.specs.Binary.{bit};
 ghost use Rattle.blocks.specs.Blocks.{at, cells, about};
+ghost use Rattle.blocks.specs.Rects.{cells_of};
 ghost use Rattle.binarize.specs.Levels.{marked_means, any_marked, window_level, global_level};
-ghost use Rattle.binarize.specs.Splits.{level_of, with_block, block_step, column_step, no_block, Bounded, InGrid, Grid};
+ghost use Rattle.binarize.specs.Splits.{level_of, with_block, block_step, column_step, no_block, Bounded, InGrid};
 
-// The level of a window, where it holds a marked block.
-#[derive(Clone, Copy)]
-pub enum Level {
-    At(u8),
-    Nothing,
-}
+use super::grid::Grid;
+use blocks::rect::Rect;
 
 // The marked means of a window in two groups, those up to a bound and those above: the sum and the number of each.
-#[derive(Clone, Copy)]
+#[derive(Clone, Copy, Default)]
 pub struct Split {
     pub low: u32,
     pub lows: u32,
@@ -22,27 +19,13 @@ pub struct Split {
     pub highs: u32,
 }
 
-// 1 where a block is marked.
-fn one_marked(mark: u8) -> u32
-    ensures { result ≡ bit (eqb mark 1) }
-{
-    if mark == 1 { 1 } else { 0 }
-}
-
-// 1 where a mean is up to a bound.
-fn one_low(v: u8, bound: u8) -> u32
-    ensures { result ≡ bit (leb v bound) }
-{
-    if v <= bound { 1 } else { 0 }
-}
-
 // One block more, which counts if it is marked: by products with 0 or 1, since no branch could be foretold.
 fn with_block(t: Split, v: u8, mark: u8, bound: u8) -> Split
     requires { Bounded 8388607 t }
     ensures { (result ≡ with_block bound t v mark) × ((n : ℕ) → Bounded n t → Bounded (n + 1) result) }
 {
-    let on = one_marked(mark);
-    let low = on * one_low(v, bound);
+    let on = u32::from(mark == 1);
+    let low = on * u32::from(v <= bound);
     let high = on - low;
     Split {
         low: t.low + v as u32 * low,
@@ -66,38 +49,20 @@ fn row_split(
     ensures { (result ≡ folded (column_step (at means.now) (at marks.now) bound from) t (range a b)) × ((n : ℕ) → Bounded n t → Bounded (n + (b - a)) result) }
 {
     let mut r = t;
-    let mut x = a;
-    while x < b {
+    for x in a..b {
         r = with_block(r, means[from + x], marks[from + x], bound);
-        x += 1;
     }
     r
 }
 
-// Columns a to b of the rows c to d, of w blocks each.
-fn window_split(
-    means: &[u8],
-    marks: &[u8],
-    w: usize,
-    a: usize,
-    b: usize,
-    c: usize,
-    d: usize,
-    bound: u8,
-) -> Split
-    requires { InGrid (length means.now) w a b c d × InGrid (length marks.now) w a b c d }
-    ensures { (result ≡ folded (block_step (at means.now) (at marks.now) bound) no_block (cells w (range a b) (range c d))) × Bounded 262144 result }
+// The blocks in a window, where a row has w blocks.
+fn window_split(means: &[u8], marks: &[u8], w: usize, window: Rect, bound: u8) -> Split
+    requires { InGrid (length means.now) w window × InGrid (length marks.now) w window }
+    ensures { (result ≡ folded (block_step (at means.now) (at marks.now) bound) no_block (cells_of w window)) × Bounded 262144 result }
 {
-    let mut t = Split {
-        low: 0,
-        lows: 0,
-        high: 0,
-        highs: 0,
-    };
-    let mut y = c;
-    while y < d {
-        t = row_split(means, marks, y * w, a, b, bound, t);
-        y += 1;
+    let mut t = Split::default();
+    for y in window.top..window.bottom {
+        t = row_split(means, marks, y * w, window.left, window.right, bound, t);
     }
     t
 }
@@ -115,67 +80,34 @@ fn midpoint(t: Split, mean: u8) -> u8
     requires { Bounded 262144 t }
     ensures { result ≡ cond (eqb t.lows 0 || eqb t.highs 0) mean ((t.low / t.lows + t.high / t.highs) / 2) }
 {
-    if t.lows == 0 {
-        return mean;
-    }
-    if t.highs == 0 {
+    if t.lows == 0 || t.highs == 0 {
         return mean;
     }
     ((t.low / t.lows + t.high / t.highs) / 2) as u8
 }
 
-// The level of the window of columns a to b and rows c to d.
-fn level_in(means: &[u8], marks: &[u8], w: usize, a: usize, b: usize, c: usize, d: usize) -> Level
-    requires { InGrid (length means.now) w a b c d × InGrid (length marks.now) w a b c d }
-    ensures { result ≡ level_of (marked_means (at means.now) (at marks.now) (cells w (range a b) (range c d))) }
+// The level of a window, where it holds a marked block.
+fn level_in(means: &[u8], marks: &[u8], w: usize, window: Rect) -> Option<u8>
+    requires { InGrid (length means.now) w window × InGrid (length marks.now) w window }
+    ensures { result ≡ level_of (marked_means (at means.now) (at marks.now) (cells_of w window)) }
 {
-    let all = window_split(means, marks, w, a, b, c, d, 0);
+    let all = window_split(means, marks, w, window, 0);
     if all.lows + all.highs == 0 {
-        return Level::Nothing;
+        return None;
     }
     let mean = mean_of(all);
-    let two = window_split(means, marks, w, a, b, c, d, mean);
-    Level::At(midpoint(two, mean))
+    let two = window_split(means, marks, w, window, mean);
+    Some(midpoint(two, mean))
 }
 
-// Where a window of radius r about place p begins.
-pub fn begins(p: usize, r: usize) -> usize
-    ensures { result ≡ p - r }
+// The level of the window of a radius about the block in column x and row y, by one kind of marks.
+fn level_about(grid: Grid, marks: &[u8], x: usize, y: usize, radius: usize) -> Option<u8>
+    requires { (x < grid.width) × (y < grid.height) × (grid.height * grid.width ≤ length marks.now) × (radius ≤ 512) }
+    ensures { let g = grid.entry in
+        result ≡ level_of (marked_means (at g.means.now) (at marks.now) (cells g.width (about g.width x radius) (about g.height y radius))) }
 {
-    if p < r { 0 } else { p - r }
-}
-
-// Where it ends, of n places.
-pub fn ends(n: usize, p: usize, r: usize) -> usize
-    requires { (p ≤ 512) × (r ≤ 512) }
-    ensures { result ≡ min n (p + r + 1) }
-{
-    let e = p + r + 1;
-    if n < e { n } else { e }
-}
-
-// The level of the window of radius r about the block in column x and row y.
-fn level_about(
-    means: &[u8],
-    marks: &[u8],
-    bw: usize,
-    bh: usize,
-    x: usize,
-    y: usize,
-    r: usize,
-) -> Level
-    requires { Grid (length means.now) bw bh x y × Grid (length marks.now) bw bh x y × (r ≤ 512) }
-    ensures { result ≡ level_of (marked_means (at means.now) (at marks.now) (cells bw (about bw x r) (about bh y r))) }
-{
-    level_in(
-        means,
-        marks,
-        bw,
-        begins(x, r),
-        ends(bw, x, r),
-        begins(y, r),
-        ends(bh, y, r),
-    )
+    let window = Rect::about(grid.width, grid.height, x, y, radius);
+    level_in(grid.means, marks, grid.width, window)
 }
 
 // The marks of a kind of window: the first two kinds go by the edge marks, the others by the near marks.
@@ -186,47 +118,28 @@ fn marks_of<'a>(edges: &'a [u8], nears: &'a [u8], kind: usize) -> &'a [u8]
 }
 
 // The level of the block in column x and row y: the first of four windows that holds a marked block gives it, otherwise it is the global level.
-pub fn block_level<'a>(
-    means: &[u8],
-    edges: &'a [u8],
-    nears: &'a [u8],
-    bw: usize,
-    bh: usize,
-    x: usize,
-    y: usize,
-    global: u8,
-) -> u8
-    requires { Grid (length means.now) bw bh x y × Grid (length edges.now) bw bh x y × Grid (length nears.now) bw bh x y }
-    ensures { result ≡ window_level (at means.now) (at edges.now) (at nears.now) bw bh x y global }
+pub fn block_level(grid: Grid, x: usize, y: usize, global: u8) -> u8
+    requires { (x < grid.width) × (y < grid.height) }
+    ensures { let g = grid.entry in result ≡ window_level (at g.means.now) (at g.edges.now) (at g.nears.now) g.width g.height x y global }
 {
     let mut kind = 0;
-    let v = loop {
+    loop {
         if kind == 4 {
             break global;
         }
-        let marks = marks_of(edges, nears, kind);
-        let found = level_about(means, marks, bw, bh, x, y, 2 + kind % 2 * 2);
-        if let Level::At(v) = found {
+        let marks = marks_of(grid.edges, grid.nears, kind);
+        if let Some(v) = level_about(grid, marks, x, y, 2 + kind % 2 * 2) {
             break v;
         }
         kind += 1;
-    };
-    v
+    }
 }
 
-// Whether one of n blocks is marked.
-fn any_mark(marks: &[u8], n: usize) -> bool
-    requires { n ≤ length marks.now }
-    ensures { result ≡ any_marked (at marks.now) n }
+// Whether a block is marked.
+fn any_mark(marks: &[u8]) -> bool
+    ensures { result ≡ list_any (λ mark. mark == 1) marks.now }
 {
-    let mut i = 0;
-    while i < n {
-        if marks[i] == 1 {
-            return true;
-        }
-        i += 1;
-    }
-    false
+    marks.iter().any(|mark| *mark == 1)
 }
 
 // The edge marks if any of n blocks has one, otherwise the near marks.
@@ -234,19 +147,20 @@ fn chosen<'a>(edges: &'a [u8], nears: &'a [u8], n: usize) -> &'a [u8]
     requires { n ≤ length edges.now }
     ensures { result.now ≡ cond (any_marked (at edges.now) n) edges.now nears.now }
 {
-    if any_mark(edges, n) { edges } else { nears }
+    if any_mark(&edges[..n]) { edges } else { nears }
 }
 
 // The level over all blocks of the picture, 0 where none is marked.
-pub fn global_level<'a>(means: &[u8], edges: &'a [u8], nears: &'a [u8], bw: usize, bh: usize) -> u8
-    requires { (bw ≤ 512) × (bh ≤ 512) × (bh * bw ≤ length means.now) × (bh * bw ≤ length edges.now) × (bh * bw ≤ length nears.now) }
-    ensures { result ≡ global_level (at means.now) (at edges.now) (at nears.now) bw bh }
+pub fn global_level(grid: Grid) -> u8
+    ensures { let g = grid.entry in result ≡ global_level (at g.means.now) (at g.edges.now) (at g.nears.now) g.width g.height }
 {
-    let n = bh * bw;
-    let marks = chosen(edges, nears, n);
-    let found = level_in(means, marks, n, 0, n, 0, 1);
-    if let Level::At(v) = found {
-        return v;
-    }
-    0
+    let n = grid.height * grid.width;
+    let marks = chosen(grid.edges, grid.nears, n);
+    let all = Rect {
+        left: 0,
+        right: n,
+        top: 0,
+        bottom: 1,
+    };
+    level_in(grid.means, marks, n, all).unwrap_or(0)
 }

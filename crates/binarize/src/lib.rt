@@ -7,11 +7,13 @@ ghost use Rattle.blocks.specs.Blocks.{mean_at, least_at, greatest_at, edge_at, n
 ghost use Rattle.binarize.specs.Binarize.{binarize_refusal, dark_after};
 ghost use Rattle.binarize.specs.Splits.{Passed};
 
+use blocks::picture::Picture;
 use blocks::{block_values, check_blocks};
 use lcr_core::Outcome;
 use rows::put_picture;
 
 mod blank;
+mod grid;
 mod levels;
 mod rows;
 
@@ -61,15 +63,12 @@ fn binarize_checked(
     ensures bits_after { bits.new ≡ dark_after 0 gray.now width height bits.old }
 {
     block_values(gray, width, height, means, least, greatest, edges, nears);
-    put_picture(
+    let picture = Picture {
         gray,
-        width as usize,
-        height as usize,
-        means,
-        edges,
-        nears,
-        bits,
-    );
+        width: width as usize,
+        height: height as usize,
+    };
+    put_picture(picture, means, edges, nears, bits);
 }
 
 // Black and white conversion of a gray picture into bits; the five work slices take a byte for each block.

@@ -1,7 +1,6 @@
 // The bits of a picture whose blocks' means and marks are known, written in pixel order, each byte once.
-ghost use Rattle.std.specs.Prelude.{◌≡◌, Bool, List, ℕ, ◌+◌, ◌*◌, ◌/◌, ◌^◌, ◌≤◌, ◌<◌, min, length, set, ltb};
+ghost use Rattle.std.specs.Prelude.{◌≡◌, Bool, List, ℕ, ◌+◌, ◌*◌, ◌/◌, ◌^◌, ◌≤◌, ◌<◌, length, set, ltb};
 ghost use Rattle.lists.specs.Lists.{filled};
-ghost use Rattle.lcr_core.specs.Passed.{Sides};
 ghost use Rattle.binary.specs.Binary.{bit, word, byte_of, bytes_of};
 ghost use Rattle.binary.specs.Writing.{Written};
 ghost use Rattle.blocks.specs.Blocks.{at, blocks_in};
@@ -10,38 +9,33 @@ ghost use Rattle.binarize.specs.Binarize.{dark_by};
 ghost use Rattle.binarize.specs.Splits.{rest_of_eight, byte_of_eight};
 
 use super::blank::{flag_columns, level_by};
-use super::levels::{begins, ends, global_level};
+use super::grid::Grid;
+use super::levels::global_level;
 use binary::put_bit;
+use blocks::picture::Picture;
 
 // 1 where a gray value is below the level.
 fn below(v: u8, level: u8) -> u8
     ensures { result ≡ bit (ltb v level) }
 {
-    if v < level { 1 } else { 0 }
+    u8::from(v < level)
 }
 
 // The levels of row y of blocks.
-fn row_levels<'a>(
-    means: &[u8],
-    edges: &'a [u8],
-    nears: &'a [u8],
-    bw: usize,
-    bh: usize,
-    y: usize,
-    global: u8,
-    levels: &mut [u8],
-)
-    requires { (bw ≤ 512) × (bh ≤ 512) × (y < bh) × (bh * bw ≤ length means.now) × (bh * bw ≤ length edges.now) × (bh * bw ≤ length nears.now)
-        × (bw ≤ length levels.old) }
-    ensures { levels.new
-        ≡ filled bw (λ x. window_level (at means.now) (at edges.now) (at nears.now) bw bh x y global) levels.old }
+fn row_levels(grid: Grid, y: usize, global: u8, levels: &mut [u8])
+    requires { (y < grid.height) × (grid.width ≤ length levels.old) }
+    ensures { let g = grid.entry in
+        levels.new ≡ filled g.width (λ x. window_level (at g.means.now) (at g.edges.now) (at g.nears.now) g.width g.height x y global) levels.old }
 {
     let mut flags = [0u8; 512];
-    flag_columns(edges, nears, bw, begins(y, 4), ends(bh, y, 4), &mut flags);
-    let mut x = 0;
-    while x < bw {
-        levels[x] = level_by(means, edges, nears, bw, bh, x, y, global, &flags);
-        x += 1;
+    flag_columns(
+        grid,
+        y.saturating_sub(4),
+        grid.height.min(y + 4 + 1),
+        &mut flags,
+    );
+    for x in 0..grid.width {
+        levels[x] = level_by(grid, x, y, global, &flags);
     }
 }
 
@@ -51,10 +45,8 @@ fn eight_below(gray: &[u8], from: usize, level: u8) -> u8
     ensures { result ≡ word (λ k. ltb (at gray.now k) level) from 8 }
 {
     let mut acc = 0;
-    let mut i = 0;
-    while i < 8 {
+    for i in 0..8 {
         acc = acc % 128 * 2 + below(gray[from + i], level);
-        i += 1;
     }
     acc
 }
@@ -79,11 +71,9 @@ fn put_blocks(gray: &[u8], from: usize, w: usize, levels: &[u8], carried: u8, bi
         → Written p (from + w / 8 * 8) old bits.new result }
 {
     let mut acc = carried;
-    let mut j = 0;
-    while j < w / 8 {
+    for j in 0..w / 8 {
         let b = eight_below(gray, from + j * 8, levels[j]);
         acc = put_eight(bits, from + j * 8, acc, b);
-        j += 1;
     }
     acc
 }
@@ -104,10 +94,8 @@ fn put_pixels(
         → Written p (from + w) old bits.new result }
 {
     let mut acc = carried;
-    let mut x = a;
-    while x < w {
+    for x in a..w {
         acc = put_bit(bits, from + x, acc, below(gray[from + x], levels[x / 8]));
-        x += 1;
     }
     acc
 }
@@ -119,70 +107,57 @@ fn pad(from: usize, to: usize, carried: u8, bits: &mut [u8]) -> u8
         → ((k : ℕ) → from ≤ k → k < to → 0 ≡ bit (p k)) → Written p to old bits.new result }
 {
     let mut acc = carried;
-    let mut n = from;
-    while n < to {
+    for n in from..to {
         acc = put_bit(bits, n, acc, 0);
-        n += 1;
     }
     acc
 }
 
 // Puts the rows y to z, which share their levels.
-fn put_rows(
-    gray: &[u8],
-    w: usize,
-    y: usize,
-    z: usize,
-    levels: &[u8],
-    carried: u8,
-    bits: &mut [u8],
-) -> u8
-    requires { (y ≤ z) × (z * w ≤ length gray.now) × (w ≤ 8 * length levels.now) × (z * w ≤ 8 * length bits.old) × (z ≤ 4096) }
-    ensures { (p : ℕ → Bool) (old : List ℕ) → length old ≡ length bits.old → Written p (y * w) old bits.old carried
-        → ((i x : ℕ) → y ≤ i → i < z → x < w → p (i * w + x) ≡ ltb (at gray.now (i * w + x)) (at levels.now (x / 8)))
+fn put_rows(picture: Picture, y: usize, z: usize, levels: &[u8], carried: u8, bits: &mut [u8]) -> u8
+    requires { (y ≤ z) × (z ≤ picture.height) × (picture.width ≤ 8 * length levels.now) × (z * picture.width ≤ 8 * length bits.old) }
+    ensures { let w = picture.entry.width in let gray = picture.entry.gray.now in
+        (p : ℕ → Bool) (old : List ℕ) → length old ≡ length bits.old → Written p (y * w) old bits.old carried
+        → ((i x : ℕ) → y ≤ i → i < z → x < w → p (i * w + x) ≡ ltb (at gray (i * w + x)) (at levels.now (x / 8)))
         → Written p (z * w) old bits.new result }
 {
+    let w = picture.width;
     let mut acc = carried;
-    let mut i = y;
-    while i < z {
-        let rest = put_blocks(gray, i * w, w, levels, acc, bits);
-        acc = put_pixels(gray, i * w, w / 8 * 8, w, levels, rest, bits);
-        i += 1;
+    for i in y..z {
+        let rest = put_blocks(picture.gray, i * w, w, levels, acc, bits);
+        acc = put_pixels(picture.gray, i * w, w / 8 * 8, w, levels, rest, bits);
     }
     acc
 }
 
-fn lesser(a: usize, b: usize) -> usize
-    ensures { result ≡ min a b }
-{
-    if a < b { a } else { b }
-}
-
 // Puts all pixels.
-pub fn put_picture<'a>(
-    gray: &[u8],
-    w: usize,
-    h: usize,
-    means: &[u8],
-    edges: &'a [u8],
-    nears: &'a [u8],
-    bits: &mut [u8],
-)
-    requires { Sides w h × (w * h ≤ length gray.now) × (blocks_in w h ≤ length means.now) × (blocks_in w h ≤ length edges.now)
-        × (blocks_in w h ≤ length nears.now) × (bytes_of (w * h) ≤ length bits.old) }
-    ensures { bits.new ≡ filled (bytes_of (w * h))
-        (byte_of (dark_by (at means.now) (at edges.now) (at nears.now) gray.now w h)) bits.old }
+pub fn put_picture(picture: Picture, means: &[u8], edges: &[u8], nears: &[u8], bits: &mut [u8])
+    requires { let n = blocks_in picture.width picture.height in (n ≤ length means.now) × (n ≤ length edges.now) × (n ≤ length nears.now)
+        × (bytes_of (picture.width * picture.height) ≤ length bits.old) }
+    ensures { let p = picture.entry in bits.new ≡ filled (bytes_of (p.width * p.height))
+        (byte_of (dark_by (at means.now) (at edges.now) (at nears.now) p.gray.now p.width p.height)) bits.old }
 {
-    let bw = (w + 7) / 8;
-    let bh = (h + 7) / 8;
-    let global = global_level(means, edges, nears, bw, bh);
+    let grid = Grid {
+        means,
+        edges,
+        nears,
+        width: picture.columns(),
+        height: picture.rows(),
+    };
+    let global = global_level(grid);
     let mut levels = [0u8; 512];
     let mut acc = 0;
-    let mut y = 0;
-    while y < bh {
-        row_levels(means, edges, nears, bw, bh, y, global, &mut levels);
-        acc = put_rows(gray, w, y * 8, lesser(h, y * 8 + 8), &levels, acc, bits);
-        y += 1;
+    for y in 0..grid.height {
+        row_levels(grid, y, global, &mut levels);
+        acc = put_rows(
+            picture,
+            y * 8,
+            picture.height.min(y * 8 + 8),
+            &levels,
+            acc,
+            bits,
+        );
     }
-    pad(w * h, (w * h + 7) / 8 * 8, acc, bits);
+    let n = picture.width * picture.height;
+    pad(n, (n + 7) / 8 * 8, acc, bits);
 }

@@ -8,11 +8,14 @@ use Rattle.blocks.proofs.Refusals as blocks
 use Rattle.binarize.proofs.Brighter.{dark_same}
 use Rattle.binarize.proofs.binarize_checked.Goals as goal
 
+pub invariant_of-picture : goal.invariant_of-picture
+invariant_of-picture c = let p = blocks.passes _ _ _ _ _ _ _ _ c.requires.values in record { sides = p.sides; bytes = p.bytes }
+
 pub put_picture-requires : goal.put_picture-requires
 put_picture-requires c =
     let q = c.requires in
     let p = blocks.passes _ _ _ _ _ _ _ _ q.values in
-    (p.sides, p.bytes, omega arith, omega arith, omega arith, q.bits)
+    (omega arith, omega arith, omega arith, q.bits)
 
 pub returns : goal.returns
 returns c =

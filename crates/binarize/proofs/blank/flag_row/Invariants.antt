@@ -1,14 +1,10 @@
 -- `binarize::blank::flag_row` meets its contract: the first x columns are done. Assumes nothing.
-use Prim.Native.Nat.{◌+◌, ◌-◌, ◌≤◌}
+use Prim.Native.Nat.{◌+◌}
 use mathlib.Core.Path.{◌≡◌}
-use lib.ListN.{length}
 use Rattle.lists.specs.Lists.{filled}
 use Rattle.blocks.specs.Blocks.{at}
 use Rattle.binarize.specs.Flags.{flagged}
 use Rattle.binarize.proofs.blank.flag_row.Given as goal
 
 abbrev pub invariant-loop-x : goal.invariant-loop-x
-invariant-loop-x l = (l.x ≤ l.w) × (length l.flags ≡ length l.initial.flags) × (l.flags ≡ filled l.x (λ k. flagged (at l.marks (l.from + k)) (at l.initial.flags k)) l.initial.flags)
-
-abbrev pub decreases-loop-x : goal.decreases-loop-x
-decreases-loop-x l = l.w - l.x
+invariant-loop-x l = l.flags ≡ filled l.x (λ k. flagged (at l.marks (l.from + k)) (at l.initial.flags k)) l.initial.flags

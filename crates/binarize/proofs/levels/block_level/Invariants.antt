@@ -8,7 +8,8 @@ use Rattle.binarize.proofs.levels.block_level.Given as goal
 
 abbrev pub invariant-loop-kind : goal.invariant-loop-kind
 invariant-loop-kind l =
-    (l.kind ≤ 4) × (window_level (at l.means) (at l.edges) (at l.nears) l.bw l.bh l.x l.y l.global ≡ from l.means l.edges l.nears l.bw l.bh l.x l.y l.global l.kind)
+    let g = l.grid in
+    (l.kind ≤ 4) × (window_level (at g.means.now) (at g.edges.now) (at g.nears.now) g.width g.height l.x l.y l.global ≡ from g.means.now g.edges.now g.nears.now g.width g.height l.x l.y l.global l.kind)
 
 abbrev pub decreases-loop-kind : goal.decreases-loop-kind
 decreases-loop-kind l = 4 - l.kind

@@ -5,11 +5,9 @@ use Rattle.binarize.proofs.levels.level_about.Goals as goal
 
 pub level_in-requires : goal.level_in-requires
 level_in-requires c =
-    let p = c.requires in
-    rw (c.begins.ensures, c.ends.ensures, c.begins-2.ensures, c.ends-2.ensures)
-    (in_grid _ _ _ _ _ _ p.0, in_grid _ _ _ _ _ _ p.1)
+    let g = c.args.grid in
+    let e = c.about-window.ensures in
+    (in_grid _ _ _ _ _ _ _ g.wide g.high g.all_means e, in_grid _ _ _ _ _ _ _ g.wide g.high c.requires.2 e)
 
 pub returns : goal.returns
-returns c =
-    c.level_in.ensures
-    ∙ rw (c.begins.ensures, c.ends.ensures, c.begins-2.ensures, c.ends-2.ensures)
+returns c = let e = c.about-window.ensures in c.level_in.ensures ∙ rw (e.left, e.right, e.top, e.bottom)

@@ -2,8 +2,8 @@
 use mathlib.Core.Path.{sym, ap₂, ◌∙◌}
 use mathlib.Core.List.{List}
 use Prim.Native.Nat.{ℕ, ◌/◌}
-use Rattle.lists.specs.Lists.{range}
-use Rattle.blocks.specs.Blocks.{at, cells}
+use Rattle.blocks.specs.Blocks.{at}
+use Rattle.blocks.specs.Rects.{cells_of}
 use Rattle.binarize.specs.Levels.{marked_means}
 use Rattle.binarize.specs.Splits.{Tallied}
 use Rattle.binarize.proofs.Tallies.{tallied}
@@ -13,8 +13,7 @@ use Rattle.binarize.proofs.levels.level_in.Goals as goal
 
 -- the means in the window
 abbrev inside : After-window_split-all → List ℕ
-inside c =
-    let a = c.args in marked_means (at a.means.now) (at a.marks.now) (cells a.w (range a.a a.b) (range a.c a.d))
+inside c = let a = c.args in marked_means (at a.means.now) (at a.marks.now) (cells_of a.w a.window)
 
 -- what the first pass counted
 first : (c : After-window_split-all) → Tallied (inside c) 0 c.window_split-all.result

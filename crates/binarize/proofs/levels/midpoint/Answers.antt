@@ -2,13 +2,12 @@
 use native.Mathlib.Omega.{arith}
 use borrow.Author.Tests.{eq-eqb, ne_eqb}
 use Rattle.lists.proofs.Numbers.{mean_small}
+use Rattle.binarize.proofs.levels.midpoint.Goals.{then-t-eq0-via-then-t-eq0, then-t-eq0-via-else-t-eq0+then-t-eq0-2}
 use Rattle.binarize.proofs.levels.midpoint.Goals as goal
 
 pub returns-then-t-eq0 : goal.returns-then-t-eq0
-returns-then-t-eq0 c = simp (eq-eqb _ _ c.if-t-eq0.true)
-
-pub returns-then-t-eq0-2 : goal.returns-then-t-eq0-2
-returns-then-t-eq0-2 c = simp (ne_eqb _ _ c.if-t-eq0.false, eq-eqb _ _ c.if-t-eq0-2.true)
+returns-then-t-eq0 c =
+    elim c.then-t-eq0.branch [ then-t-eq0-via-then-t-eq0 w ↦ simp (eq-eqb _ _ w.if-t-eq0.true) | then-t-eq0-via-else-t-eq0+then-t-eq0-2 w ↦ simp (ne_eqb _ _ w.if-t-eq0.false, eq-eqb _ _ w.if-t-eq0-2.true) ]
 
 pub overflow_add-result : goal.overflow_add-result
 overflow_add-result c =

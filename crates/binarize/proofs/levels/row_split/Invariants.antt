@@ -1,5 +1,5 @@
 -- `binarize::levels::row_split` meets its contract: the columns before x are counted. Assumes nothing.
-use Prim.Native.Nat.{ℕ, ◌+◌, ◌-◌, ◌≤◌}
+use Prim.Native.Nat.{ℕ, ◌+◌, ◌-◌}
 use mathlib.Core.Path.{◌≡◌}
 use Rattle.lists.specs.Lists.{range, folded}
 use Rattle.blocks.specs.Blocks.{at}
@@ -8,8 +8,5 @@ use Rattle.binarize.proofs.levels.row_split.Given as goal
 
 abbrev pub invariant-loop-x : goal.invariant-loop-x
 invariant-loop-x l =
-    (l.a ≤ l.x) × (l.x ≤ l.b) × (folded (column_step (at l.means) (at l.marks) l.bound l.from) l.initial.r (range l.a l.b) ≡ folded (column_step (at l.means) (at l.marks) l.bound l.from) l.r (range l.x l.b))
-    × ((n : ℕ) → Bounded n l.initial.r → Bounded (n + (l.x - l.a)) l.r)
-
-abbrev pub decreases-loop-x : goal.decreases-loop-x
-decreases-loop-x l = l.b - l.x
+    let step = column_step (at l.means) (at l.marks) l.bound l.from in
+    (folded step l.initial.r (range l.a l.b) ≡ folded step l.r (range l.x l.b)) × ((n : ℕ) → Bounded n l.initial.r → Bounded (n + (l.x - l.a)) l.r)

@@ -1,5 +1,4 @@
 -- `binarize::rows::eight_below` meets its contract: the first i pixels stand in acc. Assumes nothing.
-use Prim.Native.Nat.{◌-◌, ◌≤◌}
 use mathlib.Core.Path.{◌≡◌}
 use lib.Dec.{ltb}
 use Rattle.binary.specs.Binary.{word}
@@ -7,7 +6,4 @@ use Rattle.blocks.specs.Blocks.{at}
 use Rattle.binarize.proofs.rows.eight_below.Given as goal
 
 abbrev pub invariant-loop-i : goal.invariant-loop-i
-invariant-loop-i l = (l.i ≤ 8) × (l.acc ≡ word (λ k. ltb (at l.gray k) l.level) l.from l.i)
-
-abbrev pub decreases-loop-i : goal.decreases-loop-i
-decreases-loop-i l = 8 - l.i
+invariant-loop-i l = l.acc ≡ word (λ k. ltb (at l.gray k) l.level) l.from l.i

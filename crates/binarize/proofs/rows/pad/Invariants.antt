@@ -1,5 +1,5 @@
 -- `binarize::rows::pad` meets its contract: the bits before n are written. Assumes nothing.
-use Prim.Native.Nat.{ℕ, ◌-◌, ◌≤◌, ◌<◌}
+use Prim.Native.Nat.{ℕ, ◌≤◌, ◌<◌}
 use mathlib.Core.Path.{◌≡◌}
 use mathlib.Core.Bool.{Bool}
 use mathlib.Core.List.{List}
@@ -10,9 +10,5 @@ use Rattle.binarize.proofs.rows.pad.Given as goal
 
 abbrev pub invariant-loop-n : goal.invariant-loop-n
 invariant-loop-n l =
-    (l.from ≤ l.n) × (l.n ≤ l.to) × (length l.bits ≡ length l.initial.bits)
-    × ((p : ℕ → Bool) (old : List ℕ) → length old ≡ length l.initial.bits → Written p l.from old l.initial.bits l.carried
-    → ((k : ℕ) → l.from ≤ k → k < l.n → 0 ≡ bit (p k)) → Written p l.n old l.bits l.acc)
-
-abbrev pub decreases-loop-n : goal.decreases-loop-n
-decreases-loop-n l = l.to - l.n
+    (p : ℕ → Bool) (old : List ℕ) → length old ≡ length l.initial.bits → Written p l.from old l.initial.bits l.carried
+    → ((k : ℕ) → l.from ≤ k → k < l.n → 0 ≡ bit (p k)) → Written p l.n old l.bits l.acc

@@ -1,5 +1,5 @@
 -- `binarize::rows::put_rows` meets its contract: the rows before i are written. Assumes nothing.
-use Prim.Native.Nat.{ℕ, ◌*◌, ◌+◌, ◌-◌, ◌/◌, ◌≤◌, ◌<◌}
+use Prim.Native.Nat.{ℕ, ◌*◌, ◌+◌, ◌/◌, ◌≤◌, ◌<◌}
 use mathlib.Core.Path.{◌≡◌}
 use mathlib.Core.Bool.{Bool}
 use mathlib.Core.List.{List}
@@ -11,9 +11,7 @@ use Rattle.binarize.proofs.rows.put_rows.Given as goal
 
 abbrev pub invariant-loop-i : goal.invariant-loop-i
 invariant-loop-i l =
-    (l.y ≤ l.i) × (l.i ≤ l.z) × (length l.bits ≡ length l.initial.bits)
-    × ((p : ℕ → Bool) (old : List ℕ) → length old ≡ length l.initial.bits → Written p (l.y * l.w) old l.initial.bits l.carried
-    → ((k x : ℕ) → l.y ≤ k → k < l.i → x < l.w → p (k * l.w + x) ≡ ltb (at l.gray (k * l.w + x)) (at l.levels (x / 8))) → Written p (l.i * l.w) old l.bits l.acc)
-
-abbrev pub decreases-loop-i : goal.decreases-loop-i
-decreases-loop-i l = l.z - l.i
+    let w = l.fn.picture.width in
+    let gray = l.fn.picture.gray.now in
+    (p : ℕ → Bool) (old : List ℕ) → length old ≡ length l.initial.bits → Written p (l.y * w) old l.initial.bits l.carried
+    → ((k x : ℕ) → l.y ≤ k → k < l.i → x < w → p (k * w + x) ≡ ltb (at gray (k * w + x)) (at l.levels (x / 8))) → Written p (l.i * w) old l.bits l.acc
