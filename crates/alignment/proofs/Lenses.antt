@@ -1,5 +1,6 @@
 -- Transforms with lens terms (document 02, N12): what `refine_alignment` does with them; and that at strength 0 the alignment functions answer what they
 -- answer without a lens, for any centre. Assumes nothing.
+use Rattle.std.specs.Prelude.{Option, None}
 use Prim.Native.Nat.{ℕ, zero, suc, ◌*◌}
 use mathlib.Core.Path.{◌≡◌, refl, ap, fun_ext}
 use mathlib.Core.Bool.{Bool, true, false, ◌&&◌, cond}
@@ -19,8 +20,6 @@ use Rattle.transform.specs.declared.Transform.{Transform}
 use Rattle.transform.proofs.Theorems.{same_places}
 use Rattle.geometry.specs.Build.{built_of}
 use Rattle.geometry.specs.declared.Corners.{Corners}
-use Rattle.geometry.specs.declared.Marker.{Marker}
-use Rattle.geometry.specs.declared.Marker.TheVariants.{Missing}
 use Rattle.geometry.proofs.Theorems.{built_plain}
 use Rattle.rows.specs.Rows.{answer, find_of}
 use Rattle.alignment.specs.Alignment.{alignment_refusal, match_of, searched_of, located_of, locate_of, is_found, rebuilt_of, refined, refine_of}
@@ -31,13 +30,13 @@ use Rattle.alignment.proofs.Alike.{best_alike}
 -- ---- what `refine_alignment` does with lens terms; where it finds no marker, it keeps them (`refine_none`, Theorems.antt)
 module _ (bits : List ℕ) (w h : ℕ) (c : Corners) (v : ℕ) (t : Transform) (m : Float) where
   -- where it rebuilds the transform, through the finders and the marker a, centre and strength are 0
-  pub refine_rebuilds : alignment_refusal (length bits) w h v ≡ 0 → (a : Marker) → located_of bits w h t v m ≡ a → is_found a ≡ true → (built_of c a v).fit.found ≡ true
+  pub refine_rebuilds : alignment_refusal (length bits) w h v ≡ 0 → (a : Option Point) → located_of bits w h t v m ≡ a → is_found a ≡ true → (built_of c a v).fit.found ≡ true
       → refine_of bits w h c v t m ≡ record { refusal = 0; transform = plain (built_of c a v).fit.transform.m; marker = a }
   unfolding refine_of rebuilt_of
   refine_rebuilds e a l f b = rw (e, l, f, b) (ap (λ (u : Transform). refined 0 u a) (built_plain c a v))
 
   -- where there is no such transform, it keeps those of the one given
-  pub refine_keeps : alignment_refusal (length bits) w h v ≡ 0 → (a : Marker) → located_of bits w h t v m ≡ a → (built_of c a v).fit.found ≡ false
+  pub refine_keeps : alignment_refusal (length bits) w h v ≡ 0 → (a : Option Point) → located_of bits w h t v m ≡ a → (built_of c a v).fit.found ≡ false
       → refine_of bits w h c v t m ≡ record { refusal = 0; transform = t; marker = a }
   unfolding refine_of rebuilt_of
   refine_keeps e a l b = rw (e, l, b) (go (is_found a))
@@ -47,7 +46,7 @@ module _ (bits : List ℕ) (w h : ℕ) (c : Corners) (v : ℕ) (t : Transform) (
       go false = refl
 
   -- after a refusal all of them are 0
-  pub refine_refused : (n : ℕ) → alignment_refusal (length bits) w h v ≡ suc n → refine_of bits w h c v t m ≡ record { refusal = suc n; transform = zero_transform; marker = Missing }
+  pub refine_refused : (n : ℕ) → alignment_refusal (length bits) w h v ≡ suc n → refine_of bits w h c v t m ≡ record { refusal = suc n; transform = zero_transform; marker = None }
   unfolding refine_of
   refine_refused n e = rw e
 
@@ -91,7 +90,7 @@ module _ (bits : List ℕ) (w h : ℕ) (t : Transform) (e : eq t.strength d0 ≡
   locate_plain v m = ap (answer (alignment_refusal (length bits) w h v)) (located_plain v m)
 
   -- `refine_alignment`: the same refusal, the same marker and the same eight numbers
-  numbers_plain : (c : Corners) (a : Marker) (v : ℕ) → (rebuilt_of c a v t).m ≡ (rebuilt_of c a v (plain t.m)).m
+  numbers_plain : (c : Corners) (a : Option Point) (v : ℕ) → (rebuilt_of c a v t).m ≡ (rebuilt_of c a v (plain t.m)).m
   unfolding rebuilt_of
   numbers_plain c a v = go (is_found a && (built_of c a v).fit.found)
     where
@@ -104,7 +103,7 @@ module _ (bits : List ℕ) (w h : ℕ) (t : Transform) (e : eq t.strength d0 ≡
   unfolding refine_of
   refine_plain c v m = rw (located_plain v m) (refl, refl, go (alignment_refusal (length bits) w h v))
     where
-      a : Marker
+      a : Option Point
       a = located_of bits w h (plain t.m) v m
 
       go : (n : ℕ) → (unless n zero_transform (rebuilt_of c a v t)).m ≡ (unless n zero_transform (rebuilt_of c a v (plain t.m))).m

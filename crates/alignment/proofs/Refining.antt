@@ -1,4 +1,5 @@
 -- What refining answers where it is refused, and where it is not. Assumes nothing.
+use Rattle.std.specs.Prelude.{Option, None}
 use mathlib.Core.Path.{◌≡◌, refl, ap}
 use mathlib.Core.Bool.{true, false, ◌&&◌, cond}
 use Prim.Native.Nat.{ℕ, zero, suc}
@@ -7,23 +8,22 @@ use Rattle.transform.specs.declared.Transform.{Transform}
 use Rattle.geometry.specs.Build.{built_of}
 use Rattle.geometry.specs.declared.Built.{Built}
 use Rattle.geometry.specs.declared.Corners.{Corners}
-use Rattle.geometry.specs.declared.Marker.{Marker}
-use Rattle.geometry.specs.declared.Marker.TheVariants.{Missing}
 use Rattle.alignment.specs.Alignment.{is_found, rebuilt_of, refined}
 use Rattle.alignment.specs.declared.Refined.{Refined}
+use Rattle.transform.specs.declared.Point.{Point}
 
-pub refining_refused : (r n : ℕ) (t : Transform) (a : Marker) → (r ≡ 0 → ⊥) → r ≡ n → ◌≡◌ {A = Refined} (record { refusal = r; transform = zero_transform; marker = Missing }) (refined n t a)
+pub refining_refused : (r n : ℕ) (t : Transform) (a : Option Point) → (r ≡ 0 → ⊥) → r ≡ n → ◌≡◌ {A = Refined} (record { refusal = r; transform = zero_transform; marker = None }) (refined n t a)
 refining_refused zero n t a h e = absurd (h refl)
 refining_refused (suc r) n t a h e = rw (← e)
 
-pub refining_done : (r n : ℕ) (t u : Transform) (a b : Marker) → r ≡ 0 → r ≡ n → t ≡ u → a ≡ b → ◌≡◌ {A = Refined} (record { refusal = 0; transform = t; marker = a }) (refined n u b)
+pub refining_done : (r n : ℕ) (t u : Transform) (a b : Option Point) → r ≡ 0 → r ≡ n → t ≡ u → a ≡ b → ◌≡◌ {A = Refined} (record { refusal = 0; transform = t; marker = a }) (refined n u b)
 refining_done r n t u a b h e p q = rw (← e, h, p, q)
 
 -- the transform b that is built through the finders and the marker
-abbrev chosen : Marker → Transform → Built → Transform
+abbrev chosen : Option Point → Transform → Built → Transform
 chosen a t b = cond (is_found a && b.fit.found) b.fit.transform t
 
-module _ (corners : Corners) (a : Marker) (v : ℕ) (t : Transform) where
+module _ (corners : Corners) (a : Option Point) (v : ℕ) (t : Transform) where
   through : (b : Built) → b ≡ built_of corners a v → chosen a t b ≡ rebuilt_of corners a v t
   unfolding rebuilt_of
   through b q = ap (chosen a t) q

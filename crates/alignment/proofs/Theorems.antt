@@ -1,4 +1,5 @@
 -- What the definitions say, in document 01's words. Assumes nothing.
+use Rattle.std.specs.Prelude.{None}
 use mathlib.Core.Path.{◌≡◌, refl}
 use mathlib.Core.Bool.{Bool, true, false, cond, ◌||◌}
 use mathlib.Core.List.{List, ◌∷◌}
@@ -14,7 +15,6 @@ use Rattle.binary.specs.Binary.{bit, dark_at}
 use Rattle.transform.specs.declared.Transform.{Transform}
 use Rattle.geometry.specs.Order.{point}
 use Rattle.geometry.specs.declared.Corners.{Corners}
-use Rattle.geometry.specs.declared.Marker.TheVariants.{Missing}
 use Rattle.alignment.specs.Alignment.{alignment_refusal, located_of, rebuilt_of, refine_of}
 use Rattle.alignment.specs.Template.{outside_of, pixel_at, tapped, less, no_site, sweep_best, best_of, matched_of}
 use Rattle.alignment.specs.declared.template.Votes.{Votes}
@@ -48,17 +48,17 @@ nan_y bits w h v x = rw (inside-nan h) (go (outside_of w x))
     go false = refl
 
 -- none below version 2
-pub match_one : (bits : List ℕ) (w h : ℕ) (t : Transform) → matched_of bits w h t 1 ≡ Missing
+pub match_one : (bits : List ℕ) (w h : ℕ) (t : Transform) → matched_of bits w h t 1 ≡ None
 unfolding matched_of
 match_one bits w h t = refl
 
-pub locate_one : (bits : List ℕ) (w h : ℕ) (t : Transform) (m : Float) → located_of bits w h t 1 m ≡ Missing
+pub locate_one : (bits : List ℕ) (w h : ℕ) (t : Transform) (m : Float) → located_of bits w h t 1 m ≡ None
 unfolding located_of
 locate_one bits w h t m = refl
 
 -- where refining finds no marker, it answers none and keeps the transform it was given
-pub refine_none : (bits : List ℕ) (w h : ℕ) (c : Corners) (v : ℕ) (t : Transform) (m : Float) → alignment_refusal (length bits) w h v ≡ 0 → located_of bits w h t v m ≡ Missing
-    → refine_of bits w h c v t m ≡ record { refusal = 0; transform = t; marker = Missing }
+pub refine_none : (bits : List ℕ) (w h : ℕ) (c : Corners) (v : ℕ) (t : Transform) (m : Float) → alignment_refusal (length bits) w h v ≡ 0 → located_of bits w h t v m ≡ None
+    → refine_of bits w h c v t m ≡ record { refusal = 0; transform = t; marker = None }
 unfolding refine_of rebuilt_of
 refine_none bits w h c v t m e n = rw (e, n)
 

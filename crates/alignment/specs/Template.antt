@@ -1,6 +1,6 @@
 -- The template match. Document 01: "Sweeps of 13 × 13, 9 × 9 and 9 × 9 sites with steps 1/2, 1/8, 1/32 modules, the later two about the best so far; 23 of 25 modules needed; equal
 -- scores go to the smaller squared offset, then the earlier site", and a not-a-number coordinate "reads as coordinate 0". Positions are f32, in modules, in the steps of 000. Definitions only.
-use Rattle.std.specs.Prelude.{ℕ, ◌+◌, ◌*◌, ◌/◌, ◌%◌, max, Bool, false, not, ◌&&◌, ◌||◌, cond, List, [], ◌∷◌, eqb, ltb, Float}
+use Rattle.std.specs.Prelude.{ℕ, ◌+◌, ◌*◌, ◌/◌, ◌%◌, max, Bool, false, not, ◌&&◌, ◌||◌, cond, List, [], ◌∷◌, eqb, ltb, Float, Option, Some, None}
 use Rattle.std.specs.Bool.{beq}
 use Rattle.std.specs.Float.Ieee as Ieee
 use Rattle.std.specs.Float.{inf, binary32}
@@ -11,8 +11,6 @@ use Rattle.float.specs.Constants.{f0, quarter, half, f1/8, f1/32, f6_5}
 use Rattle.binary.specs.Binary.{bit, dark_at}
 use Rattle.lcr_core.specs.Version.{side_of}
 use Rattle.geometry.specs.Order.{point}
-use Rattle.geometry.specs.declared.Marker.{Marker}
-use Rattle.geometry.specs.declared.Marker.TheVariants.{At, Missing}
 use Rattle.transform.specs.Apply.{applied}
 use Rattle.transform.specs.declared.Point.{Point}
 use Rattle.transform.specs.declared.Transform.{Transform}
@@ -119,8 +117,8 @@ unfoldable pub centre_of : ℕ → Float
 centre_of version = minus32 (whole32 (side_of version)) f6_5
 
 -- none below version 2, and none where fewer than 23 modules agree
-unfoldable pub matched_of : List ℕ → ℕ → ℕ → Transform → ℕ → Marker
+unfoldable pub matched_of : List ℕ → ℕ → ℕ → Transform → ℕ → Option Point
 matched_of bits w h t version =
     let c = centre_of version in
     let s = best_of bits w h t c in
-    cond (ltb version 2 || ltb s.score 23) Missing (At (applied t (plus32 c s.x) (plus32 c s.y)))
+    cond (ltb version 2 || ltb s.score 23) None (Some (applied t (plus32 c s.x) (plus32 c s.y)))

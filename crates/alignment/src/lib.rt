@@ -5,12 +5,12 @@ ghost use Rattle.std.specs.Prelude.{◌≡◌, ◌≤◌};
 ghost use Rattle.alignment.specs.Alignment.{alignment_refusal, match_of, searched_of, located_of, locate_of, is_found, rebuilt_of, refine_of};
 
 use binary::refusal::check_bits;
-use geometry::{Corners, Marker, build_transform};
-use lcr_core::version::{Checked, Version};
-use lcr_core::{Outcome, number};
+use geometry::{Corners, build_transform};
+use lcr_core::number;
+use lcr_core::version::Version;
 use matching::{centre, matched};
 use rows::{Located, find_alignment};
-use transform::Transform;
+use transform::{Point, Transform};
 
 mod matching;
 mod template;
@@ -20,7 +20,7 @@ mod template;
 pub struct Refined {
     pub refusal: u8,
     pub transform: Transform,
-    pub marker: Marker,
+    pub marker: Option<Point>,
 }
 
 // Refusal 1, 2, 4 or 7, in this order, or 0.
@@ -32,8 +32,8 @@ fn check(len: usize, width: u32, height: u32, version: u8) -> u8
         return refusal;
     }
     match Version::new(version) {
-        Checked::Is(_) => 0,
-        Checked::Refused => number(Outcome::BadVersion),
+        Ok(_) => 0,
+        Err(refusal) => u8::from(refusal),
     }
 }
 
@@ -52,7 +52,7 @@ pub fn match_alignment(
     if refusal != 0 {
         return Located {
             refusal,
-            marker: Marker::Missing,
+            marker: None,
         };
     }
     let marker = matched(bits, width as u16, height as u16, t, v);
@@ -60,7 +60,7 @@ pub fn match_alignment(
 }
 
 // The marker by runs along rows, about the place where the transform puts its centre.
-fn searched(bits: &[u8], width: u32, height: u32, t: Transform, version: u8, module: f32) -> Marker
+fn searched(bits: &[u8], width: u32, height: u32, t: Transform, version: u8, module: f32) -> Option<Point>
     ensures { result ≡ searched_of bits.now width height t version «module» }
 {
     let c = centre(version);
@@ -70,16 +70,16 @@ fn searched(bits: &[u8], width: u32, height: u32, t: Transform, version: u8, mod
 }
 
 // The marker by its modules, or else by runs along rows.
-fn located(bits: &[u8], width: u32, height: u32, t: Transform, version: u8, module: f32) -> Marker
+fn located(bits: &[u8], width: u32, height: u32, t: Transform, version: u8, module: f32) -> Option<Point>
     requires { (width ≤ 4096) × (height ≤ 4096) }
     ensures { result ≡ located_of bits.now width height t version «module» }
 {
     if version < 2 {
-        return Marker::Missing;
+        return None;
     }
     match matched(bits, width as u16, height as u16, t, version) {
-        Marker::At(p) => Marker::At(p),
-        Marker::Missing => searched(bits, width, height, t, version, module),
+        Some(p) => Some(p),
+        None => searched(bits, width, height, t, version, module),
     }
 }
 
@@ -99,24 +99,24 @@ pub fn locate_alignment(
     if refusal != 0 {
         return Located {
             refusal,
-            marker: Marker::Missing,
+            marker: None,
         };
     }
     let marker = located(bits, width, height, t, v, module);
     Located { refusal: 0, marker }
 }
 
-fn is_found(marker: Marker) -> bool
+fn is_found(marker: Option<Point>) -> bool
     ensures { result ≡ is_found marker }
 {
     match marker {
-        Marker::At(_) => true,
-        Marker::Missing => false,
+        Some(_) => true,
+        None => false,
     }
 }
 
 // The transform through the finders and the marker; the one given where there is no marker or no such transform.
-fn rebuilt(corners: Corners, marker: Marker, version: Version, transform: Transform) -> Transform
+fn rebuilt(corners: Corners, marker: Option<Point>, version: Version, transform: Transform) -> Transform
     ensures { result ≡ rebuilt_of corners marker version.0 transform }
 {
     if is_found(marker) {
@@ -148,7 +148,7 @@ pub fn refine_alignment(
         return Refined {
             refusal,
             transform: Transform::zero(),
-            marker: Marker::Missing,
+            marker: None,
         };
     }
     let marker = located(bits, width, height, transform, v, module);

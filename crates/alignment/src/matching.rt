@@ -6,9 +6,8 @@ ghost use Rattle.alignment.specs.Template.{no_site, sweep_best, best_of, centre_
 ghost use Rattle.alignment.specs.Known.{half_at, colour_at, raised_of, SameFrom};
 
 use super::template::{Site, bent_is_dark, plain_is_dark, sweep};
-use geometry::Marker;
 use lcr_core::version::Version;
-use transform::Transform;
+use transform::{Point, Transform};
 
 // n / 2
 fn half_of(n: u16) -> f32
@@ -110,16 +109,16 @@ fn best_site(bits: &[u8], width: u16, height: u16, t: Transform, version: u8) ->
 }
 
 // The marker at the best site, where 23 modules agree.
-pub fn matched(bits: &[u8], width: u16, height: u16, t: Transform, version: u8) -> Marker
+pub fn matched(bits: &[u8], width: u16, height: u16, t: Transform, version: u8) -> Option<Point>
     ensures { result ≡ matched_of bits.now width height t version }
 {
     if version < 2 {
-        return Marker::Missing;
+        return None;
     }
     let c = centre(version);
     let s = best_site(bits, width, height, t, version);
     if s.score < 23 {
-        return Marker::Missing;
+        return None;
     }
-    Marker::At(t.apply(c + s.x, c + s.y))
+    Some(t.apply(c + s.x, c + s.y))
 }

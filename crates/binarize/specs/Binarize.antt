@@ -3,8 +3,8 @@
 -- byte per block". Definitions only.
 use Rattle.std.specs.Prelude.{ℕ, ◌*◌, ◌/◌, ◌%◌, Bool, ◌&&◌, ◌||◌, List, [], ◌∷◌, ltb}
 use Rattle.lists.specs.Lists.{filled}
-use Rattle.lcr_core.specs.Outcome.{first_of, unless, zero_side, large_side}
-use Rattle.lcr_core.specs.declared.Outcome.TheVariants.{ZeroSide, LargeSide, ShortPicture, ShortOutput}
+use Rattle.lcr_core.specs.Outcome.{Check, first_of, unless, zero_side, large_side}
+use Rattle.lcr_core.specs.declared.Refusal.TheVariants.{ZeroSide, LargeSide, ShortPicture, ShortOutput}
 use Rattle.binary.specs.Binary.{byte_of, bytes_of}
 use Rattle.blocks.specs.Blocks.{at, blocks_on, blocks_in, mean_at, edge_at, near_at, under}
 use Rattle.binarize.specs.Levels.{level_at}
@@ -18,14 +18,17 @@ abbrev pub is_dark : List ℕ → ℕ → ℕ → ℕ → Bool
 is_dark g w h = dark_by (mean_at g w h) (edge_at g w h) (near_at g w h) g w h
 
 -- what is refused of len gray bytes, with room bytes for the bits, and work slices of these lengths
+abbrev pub binarize_checks : ℕ → ℕ → ℕ → ℕ → List ℕ → List Check
+binarize_checks len w h room work =
+    record { refuses = zero_side w h; refusal = ZeroSide }
+    ∷ record { refuses = large_side w h; refusal = LargeSide }
+    ∷ record { refuses = ltb len (w * h); refusal = ShortPicture }
+    ∷ record { refuses = ltb room (bytes_of (w * h)) || under (blocks_in w h) work; refusal = ShortOutput }
+    ∷ []
+
+-- the number of the first that refuses
 unfoldable pub binarize_refusal : ℕ → ℕ → ℕ → ℕ → List ℕ → ℕ
-binarize_refusal len w h room work =
-    first_of
-    (record { refuses = zero_side w h; outcome = ZeroSide }
-    ∷ record { refuses = large_side w h; outcome = LargeSide }
-    ∷ record { refuses = ltb len (w * h); outcome = ShortPicture }
-    ∷ record { refuses = ltb room (bytes_of (w * h)) || under (blocks_in w h) work; outcome = ShortOutput }
-    ∷ [])
+binarize_refusal len w h room work = first_of (binarize_checks len w h room work)
 
 -- what a call that answers n leaves of the bit slice: after 0 a bit for each pixel and the rest as it was, else all as it was
 abbrev pub dark_after : ℕ → List ℕ → ℕ → ℕ → List ℕ → List ℕ

@@ -9,7 +9,7 @@ ghost use Rattle.binarize.specs.Splits.{Passed};
 
 use blocks::picture::Picture;
 use blocks::{block_values, check_blocks};
-use lcr_core::Outcome;
+use lcr_core::Refusal;
 use rows::put_picture;
 
 mod blank;
@@ -28,17 +28,14 @@ pub fn check_binarize(
     greatest: usize,
     edges: usize,
     nears: usize,
-) -> Outcome
+) -> Result<(), Refusal>
     ensures { number_of result ≡ binarize_refusal len width height room (means ∷ least ∷ greatest ∷ edges ∷ nears ∷ []) }
 {
-    let checked = check_blocks(len, width, height, means, least, greatest, edges, nears);
-    if lcr_core::number(checked) != 0 {
-        return checked;
-    }
+    check_blocks(len, width, height, means, least, greatest, edges, nears)?;
     if room < (width as usize * height as usize + 7) / 8 {
-        return Outcome::ShortOutput;
+        return Err(Refusal::ShortOutput);
     }
-    Outcome::Done
+    Ok(())
 }
 
 // Black and white conversion of a picture that passed the checks, so that `block_values` does not refuse it.
@@ -62,7 +59,7 @@ fn binarize_checked(
     ensures nears_after { nears.new ≡ blocks_after 0 width height (near_at gray.now width height) nears.old }
     ensures bits_after { bits.new ≡ dark_after 0 gray.now width height bits.old }
 {
-    block_values(gray, width, height, means, least, greatest, edges, nears);
+    let _ = block_values(gray, width, height, means, least, greatest, edges, nears);
     let picture = Picture {
         gray,
         width: width as usize,
@@ -82,7 +79,7 @@ pub fn binarize(
     edges: &mut [u8],
     nears: &mut [u8],
     bits: &mut [u8],
-) -> Outcome
+) -> Result<(), Refusal>
     ensures refusal { number_of result ≡ binarize_refusal (length gray.now) width height (length bits.old) (length means.old
         ∷ length least.old ∷ length greatest.old ∷ length edges.old ∷ length nears.old ∷ []) }
     ensures means { means.new ≡ blocks_after (number_of result) width height (mean_at gray.now width height) means.old }
@@ -92,7 +89,7 @@ pub fn binarize(
     ensures nears { nears.new ≡ blocks_after (number_of result) width height (near_at gray.now width height) nears.old }
     ensures bits { bits.new ≡ dark_after (number_of result) gray.now width height bits.old }
 {
-    let checked = check_binarize(
+    check_binarize(
         gray.len(),
         width,
         height,
@@ -102,12 +99,9 @@ pub fn binarize(
         greatest.len(),
         edges.len(),
         nears.len(),
-    );
-    if lcr_core::number(checked) != 0 {
-        return checked;
-    }
+    )?;
     binarize_checked(
         gray, width, height, means, least, greatest, edges, nears, bits,
     );
-    Outcome::Done
+    Ok(())
 }

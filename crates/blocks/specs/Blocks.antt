@@ -2,8 +2,8 @@
 -- A block has an edge mark if greatest − least exceeds 24; a near mark if that holds over its 3 × 3 block neighbourhood." Definitions only.
 use Rattle.std.specs.Prelude.{ℕ, ◌+◌, ◌-◌, ◌*◌, ◌/◌, ◌%◌, min, max, Bool, false, cond, ◌||◌, List, [], ◌∷◌, map, length, get_or, ltb}
 use Rattle.lists.specs.Lists.{range, flat_map, folded, filled}
-use Rattle.lcr_core.specs.Outcome.{first_of, unless, zero_side, large_side}
-use Rattle.lcr_core.specs.declared.Outcome.TheVariants.{ZeroSide, LargeSide, ShortPicture, ShortOutput}
+use Rattle.lcr_core.specs.Outcome.{Check, first_of, unless, zero_side, large_side}
+use Rattle.lcr_core.specs.declared.Refusal.TheVariants.{ZeroSide, LargeSide, ShortPicture, ShortOutput}
 
 -- ---- values of a list
 
@@ -94,14 +94,17 @@ under n [] = false
 under n (l ∷ ls) = ltb l n || under n ls
 
 -- len gray bytes, and the lengths of the work slices
+abbrev pub blocks_checks : ℕ → ℕ → ℕ → List ℕ → List Check
+blocks_checks len w h work =
+    record { refuses = zero_side w h; refusal = ZeroSide }
+    ∷ record { refuses = large_side w h; refusal = LargeSide }
+    ∷ record { refuses = ltb len (w * h); refusal = ShortPicture }
+    ∷ record { refuses = under (blocks_in w h) work; refusal = ShortOutput }
+    ∷ []
+
+-- the number of the first that refuses
 unfoldable pub blocks_refusal : ℕ → ℕ → ℕ → List ℕ → ℕ
-blocks_refusal len w h work =
-    first_of
-    (record { refuses = zero_side w h; outcome = ZeroSide }
-    ∷ record { refuses = large_side w h; outcome = LargeSide }
-    ∷ record { refuses = ltb len (w * h); outcome = ShortPicture }
-    ∷ record { refuses = under (blocks_in w h) work; outcome = ShortOutput }
-    ∷ [])
+blocks_refusal len w h work = first_of (blocks_checks len w h work)
 
 -- what a call that answers n leaves of a work slice: after 0 the value v of each block of a picture of w × h pixels and the rest as it was, else all as it was
 abbrev pub blocks_after : ℕ → ℕ → ℕ → (ℕ → ℕ) → List ℕ → List ℕ

@@ -6,7 +6,7 @@ ghost use Rattle.lcr_core.specs.Outcome.{number_of};
 ghost use Rattle.blocks.specs.Blocks.{mean_at, least_at, greatest_at, edge_at, near_at, under, blocks_refusal, blocks_after};
 ghost use Rattle.blocks.specs.Steps.{Passed};
 
-use lcr_core::Outcome;
+use lcr_core::{Refusal, check_sides};
 use marks::{edge_marks, near_marks};
 use picture::Picture;
 use stats::all_values;
@@ -52,25 +52,20 @@ pub fn check_blocks(
     greatest: usize,
     edges: usize,
     nears: usize,
-) -> Outcome
+) -> Result<(), Refusal>
     ensures { number_of result ≡ blocks_refusal len width height (means ∷ least ∷ greatest ∷ edges ∷ nears ∷ []) }
 {
-    if lcr_core::zero_side(width, height) {
-        return Outcome::ZeroSide;
-    }
-    if lcr_core::large_side(width, height) {
-        return Outcome::LargeSide;
-    }
+    check_sides(width, height)?;
     let w = width as usize;
     let h = height as usize;
     if len < w * h {
-        return Outcome::ShortPicture;
+        return Err(Refusal::ShortPicture);
     }
     let n = (h + 7) / 8 * ((w + 7) / 8);
     if short_work(n, means, least, greatest, edges, nears) {
-        return Outcome::ShortOutput;
+        return Err(Refusal::ShortOutput);
     }
-    Outcome::Done
+    Ok(())
 }
 
 // The values and marks of a picture that passed the checks.
@@ -113,7 +108,7 @@ pub fn block_values(
     greatest: &mut [u8],
     edges: &mut [u8],
     nears: &mut [u8],
-) -> Outcome
+) -> Result<(), Refusal>
     ensures refusal { number_of result ≡ blocks_refusal (length gray.now) width height (length means.old
         ∷ length least.old ∷ length greatest.old ∷ length edges.old ∷ length nears.old ∷ []) }
     ensures means { means.new ≡ blocks_after (number_of result) width height (mean_at gray.now width height) means.old }
@@ -122,7 +117,7 @@ pub fn block_values(
     ensures edges { edges.new ≡ blocks_after (number_of result) width height (edge_at gray.now width height) edges.old }
     ensures nears { nears.new ≡ blocks_after (number_of result) width height (near_at gray.now width height) nears.old }
 {
-    let checked = check_blocks(
+    check_blocks(
         gray.len(),
         width,
         height,
@@ -131,10 +126,7 @@ pub fn block_values(
         greatest.len(),
         edges.len(),
         nears.len(),
-    );
-    if lcr_core::number(checked) != 0 {
-        return checked;
-    }
+    )?;
     values_checked(
         gray,
         width as usize,
@@ -145,5 +137,5 @@ pub fn block_values(
         edges,
         nears,
     );
-    Outcome::Done
+    Ok(())
 }

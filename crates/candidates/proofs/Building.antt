@@ -1,17 +1,15 @@
 -- The steps of `build_detection`, as the code takes them. Assumes nothing.
+use Rattle.std.specs.Prelude.{Option, Some, None}
 use mathlib.Core.Path.{◌≡◌, refl, sym, ◌∙◌, ap}
 use mathlib.Core.Bool.{Bool, true, false, not, cond}
 use mathlib.Core.List.{List}
 use Prim.Native.Nat.{ℕ}
 use lib.Ieee.{Float}
-use Rattle.lcr_core.specs.declared.version.Found.{Found}
-use Rattle.lcr_core.specs.declared.version.Found.TheVariants.{Is, Nothing}
 use Rattle.lcr_core.specs.declared.version.Version.{Version}
 use Rattle.transform.specs.declared.Fit.{Fit}
 use Rattle.transform.specs.declared.Transform.{Transform}
 use Rattle.geometry.specs.declared.Built.{Built as Transformed}
 use Rattle.geometry.specs.declared.Corners.{Corners}
-use Rattle.geometry.specs.declared.Marker.TheVariants.{Missing}
 use Rattle.geometry.specs.Build.{built_of}
 use Rattle.geometry.specs.Estimate.{estimate_of}
 use Rattle.geometry.specs.Score.{mean_of}
@@ -35,15 +33,15 @@ cond_true b x y e = rw e
 cond_false : {A : Type 0} (b : Bool) (x y : A) → b ≡ false → y ≡ cond b x y
 cond_false b x y e = rw e
 
-module _ (bits : List ℕ) (w h : ℕ) (c : Corners) (s : Float) (v : Version) (m : Float) (em : m ≡ mean_of c.tl c.tr c.bl) (rough : Transformed) (er : rough ≡ built_of c Missing v.0) where
+module _ (bits : List ℕ) (w h : ℕ) (c : Corners) (s : Float) (v : Version) (m : Float) (em : m ≡ mean_of c.tl c.tr c.bl) (rough : Transformed) (er : rough ≡ built_of c None v.0) where
   pub rough_none : not rough.fit.found ≡ true → (r : Built) → r ≡ none → r ≡ build_with bits w h c s v.0
   unfolding build_with
-  rough_none f r e = e ∙ cond_false (fit_with bits w h c Missing v.0).found _ none (sym (ap (λ (b : Transformed). b.fit.found) er) ∙ is_false rough.fit.found f)
+  rough_none f r e = e ∙ cond_false (fit_with bits w h c None v.0).found _ none (sym (ap (λ (b : Transformed). b.fit.found) er) ∙ is_false rough.fit.found f)
 
   module _ (t : not rough.fit.found ≡ false) (located : Located) (el : located ≡ locate_of bits w h rough.fit.transform v.0 m) (built : Transformed) (eb : built ≡ built_of c located.marker v.0) where
     -- the two transforms, by the definitions
     abbrev roughly : Fit
-    roughly = fit_with bits w h c Missing v.0
+    roughly = fit_with bits w h c None v.0
 
     abbrev fitted : Fit
     fitted = fit_with bits w h c (marker_by bits w h c roughly.transform v.0) v.0
@@ -70,11 +68,11 @@ module _ (bits : List ℕ) (w h : ℕ) (c : Corners) (s : Float) (v : Version) (
         ∙ ap (λ (r : Refined). made r (mean_of c.tl c.tr c.bl)) (e ∙ ap (λ (x : Fit). refine_of bits w h c v.0 x.transform m) same_fit ∙ ap (refine_of bits w h c v.0 fitted.transform) em)
         ∙ cond_true fitted.found (refined_from bits w h c s fitted.transform v.0) none (sym (ap (λ (x : Fit). x.found) same_fit) ∙ is_true built.fit.found f) ∙ cond_true roughly.found _ none was_rough
 
-module _ (bits : List ℕ) (w h : ℕ) (c : Corners) (s : Float) (found : Found) (e : found ≡ estimate_of c) (r : Built) where
-  pub of_version : (v : Version) → found ≡ Is v → r ≡ build_with bits w h c s v.0 → r ≡ build_of bits w h c s
+module _ (bits : List ℕ) (w h : ℕ) (c : Corners) (s : Float) (found : Option Version) (e : found ≡ estimate_of c) (r : Built) where
+  pub of_version : (v : Version) → found ≡ Some v → r ≡ build_with bits w h c s v.0 → r ≡ build_of bits w h c s
   unfolding build_of
   of_version v f g = rw (← e, f) g
 
-  pub of_none : found ≡ Nothing → r ≡ none → r ≡ build_of bits w h c s
+  pub of_none : found ≡ None → r ≡ none → r ≡ build_of bits w h c s
   unfolding build_of
   of_none f g = rw (← e, f) g

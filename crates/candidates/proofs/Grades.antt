@@ -1,5 +1,6 @@
 -- Score and mean module of the detections (document 02, N8): those of the finders they have, scores never falling from one to the next, whatever triples were
 -- left out in between; of the list, and of what `candidates_from`, `detect_candidates` and `detect` answer. Assumes nothing.
+use Rattle.std.specs.Prelude.{Option, Some, None}
 use mathlib.Core.Path.{◌≡◌, refl, sym, ap, subst, ◌∙◌}
 use mathlib.Core.Bool.{Bool, true, false, cond, true≢false}
 use mathlib.Core.List.{List, [], ◌∷◌, ◌++◌}
@@ -14,14 +15,11 @@ use Rattle.lists.proofs.Filters.{each_map, each_both, each_get_or, each_from, ea
 use Rattle.lists.proofs.Padded.{get_or-padded, get_or_table}
 use Rattle.lcr_core.specs.Outcome.{unless}
 use Rattle.lcr_core.proofs.Checks.{either}
-use Rattle.lcr_core.specs.declared.version.Found.{Found}
-use Rattle.lcr_core.specs.declared.version.Found.TheVariants.{Is, Nothing}
 use Rattle.binary.specs.Refusal.{bits_refusal}
 use Rattle.float.specs.Constants.{f0}
 use Rattle.float.specs.Floats.{is_number}
 use Rattle.geometry.specs.declared.Corners.{Corners}
 use Rattle.geometry.specs.declared.Finder.{Finder}
-use Rattle.geometry.specs.declared.Marker.TheVariants.{Missing}
 use Rattle.geometry.specs.Score.{mean_of, corner_score, score_of}
 use Rattle.geometry.specs.Estimate.{estimate_of}
 use Rattle.geometry.proofs.Theorems.{admissible_number}
@@ -37,6 +35,7 @@ use Rattle.candidates.specs.Detection.{zero_detection, none, fit_with, marker_by
 use Rattle.candidates.specs.Candidates.{corners_of, kept, detection_of, detections_of, table_of, from_answer, detect_answer, detect_first}
 use Rattle.candidates.specs.Graded.{place_in, Graded, AllGraded}
 use Rattle.candidates.proofs.Answers.{first_found}
+use Rattle.lcr_core.specs.declared.version.Version.{Version}
 
 -- ---- what is built of the finders c with the score s has these, and the mean module of c
 module _ (bits : List ℕ) (w h : ℕ) (c : Corners) (s : Float) where
@@ -49,7 +48,7 @@ module _ (bits : List ℕ) (w h : ℕ) (c : Corners) (s : Float) where
   carried_with : (v : ℕ) → Carries (build_with bits w h c s v)
   unfolding build_with
   carried_with v =
-      let rough = fit_with bits w h c Missing v in
+      let rough = fit_with bits w h c None v in
       let fit = fit_with bits w h c (marker_by bits w h c rough.transform v) v in
       let b = refined_from bits w h c s fit.transform v in
       either Carries rough.found (cond fit.found b none) none (either Carries fit.found b none (λ _. (refl, refl, refl)) nothing) nothing
@@ -58,9 +57,9 @@ module _ (bits : List ℕ) (w h : ℕ) (c : Corners) (s : Float) where
   unfolding build_of
   carried = go (estimate_of c)
     where
-      go : (e : Found) → Carries (build_for bits w h c s e)
-      go Nothing = nothing
-      go (Is v) = carried_with v.0
+      go : (e : Option Version) → Carries (build_for bits w h c s e)
+      go None = nothing
+      go (Some v) = carried_with v.0
 
 -- ---- what triples give, those that can't be built left out
 module _ (f : Triple → Built) where

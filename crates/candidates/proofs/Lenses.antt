@@ -1,5 +1,6 @@
 -- No detection has a lens (document 02, N12: "transforms built from finders have strength 0"): centre and strength are 0 at each of the three places that
 -- `candidates_from` and `detect_candidates` answer, and in what `detect` answers, refused or not, so that the eight numbers say all. Assumes nothing.
+use Rattle.std.specs.Prelude.{Option, Some, None}
 use mathlib.Core.Path.{refl}
 use mathlib.Core.Bool.{cond}
 use mathlib.Core.List.{List, [], ◌∷◌}
@@ -10,12 +11,9 @@ use Rattle.lists.specs.Lists.{Each}
 use Rattle.lists.proofs.Filters.{each_append, each_map, each_among}
 use Rattle.lcr_core.specs.Outcome.{unless}
 use Rattle.lcr_core.proofs.Checks.{either}
-use Rattle.lcr_core.specs.declared.version.Found.{Found}
-use Rattle.lcr_core.specs.declared.version.Found.TheVariants.{Is, Nothing}
 use Rattle.binary.specs.Refusal.{bits_refusal}
 use Rattle.geometry.specs.declared.Corners.{Corners}
 use Rattle.geometry.specs.declared.Finder.{Finder}
-use Rattle.geometry.specs.declared.Marker.TheVariants.{Missing}
 use Rattle.geometry.specs.Score.{mean_of}
 use Rattle.geometry.specs.Estimate.{estimate_of}
 use Rattle.geometry.proofs.Theorems.{built_plain}
@@ -28,6 +26,7 @@ use Rattle.candidates.specs.declared.Detection.{Detection}
 use Rattle.candidates.specs.Detection.{zero_detection, WithoutLens, none, fit_with, marker_by, refined_from, build_with, build_for, build_of}
 use Rattle.candidates.specs.Candidates.{corners_of, detection_of, detections_of, table_of, first, from_answer, detect_answer, detect_first}
 use Rattle.candidates.proofs.Grades.{each_kept}
+use Rattle.lcr_core.specs.declared.version.Version.{Version}
 
 -- ---- what is built, and a place where nothing is
 module _ (bits : List ℕ) (w h : ℕ) (c : Corners) (s : Float) where
@@ -38,7 +37,7 @@ module _ (bits : List ℕ) (w h : ℕ) (c : Corners) (s : Float) where
   unfolding build_with
   with_plain v =
       let m = mean_of c.tl c.tr c.bl in
-      let rough = fit_with bits w h c Missing v in
+      let rough = fit_with bits w h c None v in
       let a = marker_by bits w h c rough.transform v in
       let fit = fit_with bits w h c a v in
       let b = refined_from bits w h c s fit.transform v in
@@ -48,9 +47,9 @@ module _ (bits : List ℕ) (w h : ℕ) (c : Corners) (s : Float) where
   unfolding build_of
   build_plain = go (estimate_of c)
     where
-      go : (e : Found) → WithoutLens (build_for bits w h c s e).detection
-      go Nothing = refl
-      go (Is v) = with_plain v.0
+      go : (e : Option Version) → WithoutLens (build_for bits w h c s e).detection
+      go None = refl
+      go (Some v) = with_plain v.0
 
 -- ---- lists and tables
 zeros_plain : (k : ℕ) → Each WithoutLens (replicate k zero_detection)

@@ -1,5 +1,6 @@
 -- Of a bit picture of w × h pixels nothing beyond its (w × h + 7) / 8 bytes is read, by the search, by the alignment functions and by the detections.
 -- Assumes nothing.
+use Rattle.std.specs.Prelude.{Option, Some, None}
 use mathlib.Core.Path.{◌≡◌, refl, sym, ap, ◌∙◌, fun_ext}
 use mathlib.Core.Bool.{Bool, true, false, not, cond, ◌&&◌}
 use mathlib.Core.List.{List, [], ◌∷◌}
@@ -24,15 +25,11 @@ use Rattle.confirm.proofs.Inside.{dark_inside}
 use Rattle.transform.specs.Apply.{applied}
 use Rattle.transform.specs.declared.Point.{Point}
 use Rattle.transform.specs.declared.Transform.{Transform}
-use Rattle.lcr_core.specs.declared.version.Found.{Found}
-use Rattle.lcr_core.specs.declared.version.Found.TheVariants.{Is, Nothing}
 use Rattle.geometry.specs.Score.{mean_of}
 use Rattle.geometry.specs.Estimate.{estimate_of}
 use Rattle.geometry.specs.Build.{built_of}
 use Rattle.geometry.specs.declared.Corners.{Corners}
 use Rattle.geometry.specs.declared.Finder.{Finder}
-use Rattle.geometry.specs.declared.Marker.{Marker}
-use Rattle.geometry.specs.declared.Marker.TheVariants.{Missing}
 use Rattle.finders.specs.Hits.{Hit, runs, hits, line_hits}
 use Rattle.finders.specs.Held.{Sighting, Held, held, merge_next}
 use Rattle.finders.specs.Search.{max_finders, sighting, seen, row_sightings_by, column_sightings_by, sightings_by, found_by, sightings, found}
@@ -53,6 +50,7 @@ use Rattle.candidates.specs.declared.Detection.{Detection}
 use Rattle.candidates.specs.declared.Built.{Built}
 use Rattle.candidates.specs.Detection.{none, build_with, build_of, build_for}
 use Rattle.candidates.specs.Candidates.{corners_of, kept, detection_of, detections_of, answered, detect_answer}
+use Rattle.lcr_core.specs.declared.version.Version.{Version}
 
 -- ---- two lines that agree on their first len pixels
 module _ (f g : ℕ → Bool) (len : ℕ) (same : (k : ℕ) → k < len → f k ≡ g k) where
@@ -133,9 +131,9 @@ column_through down across x centre m =
     let y = to_unsigned 32 centre in option_and_then (λ cx. option_and_then (λ cy. Some (record { x = cx; y = cy })) (down (to_unsigned 32 cx) y m)) (across x y m)
 
 -- what a detection is made of: the marker by a transform, and the refinement from one
-abbrev build_by : (Transform → Marker) → (Transform → Refined) → Corners → Float → ℕ → Built
+abbrev build_by : (Transform → Option Point) → (Transform → Refined) → Corners → Float → ℕ → Built
 build_by locate refine c s v =
-    let rough = (built_of c Missing v).fit in
+    let rough = (built_of c None v).fit in
     let fit = (built_of c (locate rough.transform) v).fit in
     let r = refine fit.transform in
     cond rough.found (cond fit.found (record { found = true; detection = record { finders = c; marker = r.marker; version = record { 0 = v }; transform = r.transform; score = s; mean = mean_of c.tl c.tr c.bl } }) none) none
@@ -243,7 +241,7 @@ module _ (a b : List ℕ) (w h : ℕ) (same : (k : ℕ) → k < w * h → dark_b
   confirm_same m y x = let i = to_unsigned 32 x in rw (pixel_same i y) (go i (dark_at b w h i y) refl)
     where
       go : (i : ℕ) (d : Bool) → dark_at b w h i y ≡ d
-          → cond d (marker_at m x (column_runs (column a w i) h y (rowsLimit m))) Missing ≡ cond d (marker_at m x (column_runs (column b w i) h y (rowsLimit m))) Missing
+          → cond d (marker_at m x (column_runs (column a w i) h y (rowsLimit m))) None ≡ cond d (marker_at m x (column_runs (column b w i) h y (rowsLimit m))) None
       go i true e =
           let k = dark_inside b w h i y true (sym e) refl in
           ap (marker_at m x) (column_same (column a w i) (column b w i) h (column_alike i k.0) y (rowsLimit m) (omega (arith, k.1)))
@@ -254,19 +252,19 @@ module _ (a b : List ℕ) (w h : ℕ) (same : (k : ℕ) → k < w * h → dark_b
   seen_of_same first end m y x l k e =
       rw (starts_same (row a w y) (row b w y) w (row_alike y l) x (omega arith), row_same (row a w y) (row b w y) w (row_alike y l) first end x e k, confirm_same m y (middle_of (row_runs (row b w y) first end x)))
 
-  along_same : (first end : ℕ) (p : Point) (m : Float) (y : ℕ) → y < h → end ≤ w → (best : Marker) → row_nearest a w h first end p m best y ≡ row_nearest b w h first end p m best y
+  along_same : (first end : ℕ) (p : Point) (m : Float) (y : ℕ) → y < h → end ≤ w → (best : Option Point) → row_nearest a w h first end p m best y ≡ row_nearest b w h first end p m best y
   unfolding row_nearest
   along_same first end p m y l e best =
-      folded_same (λ (s : Marker) (x : ℕ). nearer_of p s (seen_of a w h first end m y x)) (λ (s : Marker) (x : ℕ). nearer_of p s (seen_of b w h first end m y x)) (range (first + 1) end)
-      (each_range (λ x. (s : Marker) → nearer_of p s (seen_of a w h first end m y x) ≡ nearer_of p s (seen_of b w h first end m y x)) (first + 1) end (λ x _ k s. ap (nearer_of p s) (seen_of_same first end m y x l k e)))
+      folded_same (λ (s : Option Point) (x : ℕ). nearer_of p s (seen_of a w h first end m y x)) (λ (s : Option Point) (x : ℕ). nearer_of p s (seen_of b w h first end m y x)) (range (first + 1) end)
+      (each_range (λ x. (s : Option Point) → nearer_of p s (seen_of a w h first end m y x) ≡ nearer_of p s (seen_of b w h first end m y x)) (first + 1) end (λ x _ k s. ap (nearer_of p s) (seen_of_same first end m y x l k e)))
       best
 
   nearest_same : (v : Window) (p : Point) (m : Float) → v.end ≤ w → v.bottom ≤ h → nearest_of a w h v p m ≡ nearest_of b w h v p m
   unfolding nearest_of
   nearest_same v p m e l =
       folded_same (row_nearest a w h v.first v.end p m) (row_nearest b w h v.first v.end p m) (range v.top v.bottom)
-      (each_range (λ y. (s : Marker) → row_nearest a w h v.first v.end p m s y ≡ row_nearest b w h v.first v.end p m s y) v.top v.bottom (λ y _ k s. along_same v.first v.end p m y (omega arith) e s))
-      Missing
+      (each_range (λ y. (s : Option Point) → row_nearest a w h v.first v.end p m s y ≡ row_nearest b w h v.first v.end p m s y) v.top v.bottom (λ y _ k s. along_same v.first v.end p m y (omega arith) e s))
+      None
 
   -- ---- the template match
   tap_same : (v : Votes) (p : Point) → tapped a w h v p ≡ tapped b w h v p
@@ -311,8 +309,8 @@ module _ (a b : List ℕ) (w h : ℕ) (same : (k : ℕ) → k < w * h → dark_b
     located_same : (t : Transform) (v : ℕ) (m : Float) → located_of a w h t v m ≡ located_of b w h t v m
     unfolding located_of
     located_same t v m =
-        ap (λ (k : Marker). cond (ltb v 2) Missing (or_else k (searched_of a w h t v m))) (matched_same t v)
-        ∙ ap (λ (k : Marker). cond (ltb v 2) Missing (or_else (matched_of b w h t v) k)) (searched_same t v m)
+        ap (λ (k : Option Point). cond (ltb v 2) None (or_else k (searched_of a w h t v m))) (matched_same t v)
+        ∙ ap (λ (k : Option Point). cond (ltb v 2) None (or_else (matched_of b w h t v) k)) (searched_same t v m)
 
     locate_same : (t : Transform) (v : ℕ) (m : Float) → locate_of a w h t v m ≡ locate_of b w h t v m
     unfolding locate_of
@@ -323,22 +321,22 @@ module _ (a b : List ℕ) (w h : ℕ) (same : (k : ℕ) → k < w * h → dark_b
     unfolding refine_of
     refine_same c v t m =
         ap (λ (n : ℕ). refined n (rebuilt_of c (located_of a w h t v m) v t) (located_of a w h t v m)) (alignment_same v)
-        ∙ ap (λ (k : Marker). refined (alignment_refusal (length b) w h v) (rebuilt_of c k v t) k) (located_same t v m)
+        ∙ ap (λ (k : Option Point). refined (alignment_refusal (length b) w h v) (rebuilt_of c k v t) k) (located_same t v m)
 
     build_same : (c : Corners) (s : Float) (v : ℕ) → build_with a w h c s v ≡ build_with b w h c s v
     unfolding build_with
     build_same c s v =
         let m = mean_of c.tl c.tr c.bl in
-        ap (λ (l : Transform → Marker). build_by l (λ t. refine_of a w h c v t m) c s v) (fun_ext (λ t. ap (λ (l : Located). l.marker) (locate_same t v m)))
+        ap (λ (l : Transform → Option Point). build_by l (λ t. refine_of a w h c v t m) c s v) (fun_ext (λ t. ap (λ (l : Located). l.marker) (locate_same t v m)))
         ∙ ap (λ (r : Transform → Refined). build_by (λ t. (locate_of b w h t v m).marker) r c s v) (fun_ext (λ t. refine_same c v t m))
 
     built_same : (c : Corners) (s : Float) → build_of a w h c s ≡ build_of b w h c s
     unfolding build_of
     built_same c s = go (estimate_of c)
       where
-        go : (e : Found) → build_for a w h c s e ≡ build_for b w h c s e
-        go Nothing = refl
-        go (Is v) = build_same c s v.0
+        go : (e : Option Version) → build_for a w h c s e ≡ build_for b w h c s e
+        go None = refl
+        go (Some v) = build_same c s v.0
 
     pub detections_same : (fs : List Finder) → detections_of a w h fs ≡ detections_of b w h fs
     unfolding detections_of detection_of

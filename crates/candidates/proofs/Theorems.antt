@@ -1,5 +1,6 @@
 -- What the definitions say of the detections: in a call that isn't refused no step of `build_detection` is; `detect_candidates` is `candidates_from` of the
 -- picture's finders; there are three detections at most, and none of fewer than three finders. Assumes nothing.
+use Rattle.std.specs.Prelude.{Some, None, Option}
 use mathlib.Core.Path.{◌≡◌, refl, ap}
 use mathlib.Core.Bool.{Bool, true, false, cond, ◌||◌}
 use mathlib.Core.List.{List, [], ◌∷◌}
@@ -13,14 +14,12 @@ use Rattle.lists.specs.Lists.{Each, flat_map}
 use Rattle.lists.proofs.Folds.{flat_map_few}
 use Rattle.lcr_core.specs.Outcome.{zero_side, large_side}
 use Rattle.lcr_core.proofs.Checks.{first_passes}
-use Rattle.lcr_core.specs.declared.version.Found.TheVariants.{Is, Nothing}
 use Rattle.lcr_core.specs.declared.version.Version.{Version}
 use Rattle.lcr_core.specs.Version.{valid, version_refusal}
 use Rattle.binary.specs.Refusal.{short_bits, bits_refusal}
 use Rattle.transform.specs.declared.Transform.{Transform}
 use Rattle.geometry.specs.declared.Corners.{Corners}
 use Rattle.geometry.specs.declared.Finder.{Finder}
-use Rattle.geometry.specs.declared.Marker.{Marker}
 use Rattle.geometry.specs.Estimate.{side_in, nearest_version, estimate_of}
 use Rattle.geometry.specs.Build.{built_of}
 use Rattle.geometry.proofs.Theorems.{from_1_to_32}
@@ -32,17 +31,18 @@ use Rattle.ranking.proofs.Theorems.{Admissible, before, ranked_only, at_most_thr
 use Rattle.candidates.specs.Detection.{build_of}
 use Rattle.candidates.specs.Candidates.{corners_of, detection_of, detections_of, from_answer, detect_answer}
 use Rattle.candidates.proofs.Kept.{kept_few}
+use Rattle.transform.specs.declared.Point.{Point}
 
 -- ---- no step is refused
-estimated : (c : Corners) (v : Version) → estimate_of c ≡ Is v → v.0 ≡ nearest_version (side_in c)
+estimated : (c : Corners) (v : Version) → estimate_of c ≡ Some v → v.0 ≡ nearest_version (side_in c)
 unfolding estimate_of
 estimated c v e = go (le c.tl.«module» f0 || le c.tr.«module» f0 || le c.bl.«module» f0) e
   where
-    go : (b : Bool) → cond b Nothing (Is (record { 0 = nearest_version (side_in c) })) ≡ Is v → v.0 ≡ nearest_version (side_in c)
+    go : (b : Bool) → cond b None (Some (record { 0 = nearest_version (side_in c) })) ≡ Some v → v.0 ≡ nearest_version (side_in c)
     go true h = let z : ◌≡◌ {A = ℕ} 0 1 = cc in absurd (omega arith)
     go false h = cc
 
-estimate_valid : (c : Corners) (v : Version) → estimate_of c ≡ Is v → valid v.0 ≡ true
+estimate_valid : (c : Corners) (v : Version) → estimate_of c ≡ Some v → valid v.0 ≡ true
 estimate_valid c v e =
     let n = estimated c v e in
     let r = from_1_to_32 (side_in c) in
@@ -56,12 +56,12 @@ bits_passed len w h e =
     let r = first_passes (short_bits len w h) 3 _ q.1 in
     (p.0, q.0, r.0)
 
-module _ (bits : List ℕ) (w h : ℕ) (done : bits_refusal (length bits) w h ≡ 0) (c : Corners) (v : Version) (e : estimate_of c ≡ Is v) where
+module _ (bits : List ℕ) (w h : ℕ) (done : bits_refusal (length bits) w h ≡ 0) (c : Corners) (v : Version) (e : estimate_of c ≡ Some v) where
   passes : alignment_refusal (length bits) w h v.0 ≡ 0
   unfolding alignment_refusal
   passes = let p = bits_passed (length bits) w h done in rw (p.0, p.1, p.2, estimate_valid c v e)
 
-  pub built_not_refused : (m : Marker) → (built_of c m v.0).refusal ≡ 0
+  pub built_not_refused : (m : Option Point) → (built_of c m v.0).refusal ≡ 0
   unfolding built_of version_refusal
   built_not_refused m = rw (estimate_valid c v e)
 

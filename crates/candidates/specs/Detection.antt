@@ -1,16 +1,12 @@
 -- What three ordered finders give when built: `build_detection` of document 000, step by step (document 01: "A ranked triple can't be built exactly where
 -- the rules of `build_detection` .. give none for its finders and the picture's bits"). In a call that isn't refused no step is (proofs/Theorems.antt).
 -- Document 02, N8: "Each detection carries its triple's score and mean module". Definitions only.
-use Rattle.std.specs.Prelude.{true, false, cond, List, ℕ, Float}
+use Rattle.std.specs.Prelude.{true, false, cond, List, ℕ, Float, Option, Some, None}
 use Rattle.float.specs.Constants.{f0}
-use Rattle.lcr_core.specs.declared.version.Found.{Found}
-use Rattle.lcr_core.specs.declared.version.Found.TheVariants.{Is, Nothing}
 use Rattle.transform.specs.declared.Fit.{Fit}
 use Rattle.transform.specs.declared.Transform.{Transform}
 use Rattle.transform.specs.Fit.{zero_transform, Plain}
 use Rattle.geometry.specs.declared.Corners.{Corners}
-use Rattle.geometry.specs.declared.Marker.{Marker}
-use Rattle.geometry.specs.declared.Marker.TheVariants.{Missing}
 use Rattle.geometry.specs.Order.{zero_finder}
 use Rattle.geometry.specs.Score.{mean_of}
 use Rattle.geometry.specs.Estimate.{estimate_of}
@@ -18,13 +14,15 @@ use Rattle.geometry.specs.Build.{built_of}
 use Rattle.alignment.specs.Alignment.{locate_of, refine_of}
 use Rattle.candidates.specs.declared.Detection.{Detection}
 use Rattle.candidates.specs.declared.Built.{Built}
+use Rattle.transform.specs.declared.Point.{Point}
+use Rattle.lcr_core.specs.declared.version.Version.{Version}
 
 -- what fills places beyond a count
 abbrev pub zero_detection : Detection
 zero_detection =
     record {
       finders = record { tl = zero_finder; tr = zero_finder; bl = zero_finder };
-      marker = Missing;
+      marker = None;
       version = record { 0 = 0 };
       transform = zero_transform;
       score = f0;
@@ -46,11 +44,11 @@ module _ (bits : List ℕ) (w h : ℕ) (c : Corners) where
   mean = mean_of c.tl c.tr c.bl
 
   -- the transform for version v through the finders and a marker, if there is one
-  abbrev pub fit_with : Marker → ℕ → Fit
+  abbrev pub fit_with : Option Point → ℕ → Fit
   fit_with m v = (built_of c m v).fit
 
   -- the marker, looked for through the transform t
-  abbrev pub marker_by : Transform → ℕ → Marker
+  abbrev pub marker_by : Transform → ℕ → Option Point
   marker_by t v = (locate_of bits w h t v mean).marker
 
   -- of a triple with the score s
@@ -64,14 +62,14 @@ module _ (bits : List ℕ) (w h : ℕ) (c : Corners) where
     -- for version v: a rough transform through the finders alone, the marker by it, and the transform through both
     unfoldable pub build_with : ℕ → Built
     build_with v =
-        let rough = fit_with Missing v in
+        let rough = fit_with None v in
         let fit = fit_with (marker_by rough.transform v) v in
         cond rough.found (cond fit.found (refined_from fit.transform v) none) none
 
     -- for the version that the finders imply, if they imply one
-    abbrev pub build_for : Found → Built
-    build_for Nothing = none
-    build_for (Is v) = build_with v.0
+    abbrev pub build_for : Option Version → Built
+    build_for None = none
+    build_for (Some v) = build_with v.0
 
     -- `build_detection`
     unfoldable pub build_of : Built

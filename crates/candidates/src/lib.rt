@@ -9,17 +9,17 @@ ghost use Rattle.candidates.specs.Passing.{Within};
 ghost use Rattle.candidates.specs.Candidates.{corners_of, kept, detections_of, table_of, answered, from_answer, detect_answer, detect_first};
 
 use finders::Finders;
-use geometry::{Corners, Finder, Marker};
-use lcr_core::version::{Found, Version};
+use geometry::{Corners, Finder};
+use lcr_core::version::Version;
 use ranking::{Eight, Triple};
-use transform::Transform;
+use transform::{Point, Transform};
 
 // A detected symbol: its finders, the centre of its alignment marker where one was found, its version, the transform from modules to pixels, the score of its
 // triple and the mean module of its finders.
 #[derive(Clone, Copy)]
 pub struct Detection {
     pub finders: Corners,
-    pub marker: Marker,
+    pub marker: Option<Point>,
     pub version: Version,
     pub transform: Transform,
     pub score: f32,
@@ -66,7 +66,7 @@ fn zero_detection() -> Detection
             tr: z,
             bl: z,
         },
-        marker: Marker::Missing,
+        marker: None,
         version: Version(0),
         transform: t,
         score: 0.0,
@@ -90,7 +90,7 @@ fn build_with(bits: &[u8], width: u32, height: u32, c: Corners, score: f32, v: V
 {
     let mean = geometry::score::mean_module(c.tl, c.tr, c.bl);
     // Predict the marker by the finders alone, then look for it there.
-    let rough = geometry::build_transform(c, Marker::Missing, v).fit;
+    let rough = geometry::build_transform(c, None, v).fit;
     if !rough.found {
         return nothing_built();
     }
@@ -123,8 +123,8 @@ fn build_detection(bits: &[u8], width: u32, height: u32, c: Corners, score: f32)
     ensures { result ≡ build_of bits.now width height c score }
 {
     match geometry::estimate_version(c) {
-        Found::Is(v) => build_with(bits, width, height, c, score, v),
-        Found::Nothing => nothing_built(),
+        Some(v) => build_with(bits, width, height, c, score, v),
+        None => nothing_built(),
     }
 }
 

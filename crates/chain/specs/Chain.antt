@@ -4,7 +4,7 @@
 use Rattle.std.specs.Prelude.{ℕ, List, [], ◌∷◌, ltb, length}
 use Rattle.lists.specs.Lists.{written}
 use Rattle.lcr_core.specs.Outcome.{first_of, unless}
-use Rattle.lcr_core.specs.declared.Outcome.TheVariants.{ShortOutput}
+use Rattle.lcr_core.specs.declared.Refusal.TheVariants.{ShortOutput}
 use Rattle.candidates.specs.declared.Answer.{Answer}
 use Rattle.candidates.specs.Candidates.{answered, detect_answer}
 use Rattle.firmware.specs.Firmware.{firmware_bytes, firmware_size}
@@ -22,7 +22,7 @@ chain_answer n p w h s f = unless n (answered n []) (chain_of p w h s f)
 
 -- the refusal before a byte is written, where the stages refuse with n and the detections are lent len bytes: 5 also where these are too few
 unfoldable pub entry_refusal : ℕ → ℕ → ℕ
-entry_refusal n len = unless n n (first_of (record { refuses = ltb len firmware_size; outcome = ShortOutput } ∷ []))
+entry_refusal n len = unless n n (first_of (record { refuses = ltb len firmware_size; refusal = ShortOutput } ∷ []))
 
 -- `chain`: n is what the stages refuse for the picture and the lent slices
 abbrev pub whole_answer : List ℕ → ℕ → ℕ → ℕ → ℕ → List ℕ → List ℕ → List ℕ → List (List ℕ) → Answer

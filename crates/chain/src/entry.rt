@@ -5,7 +5,7 @@ ghost use Rattle.stages.specs.Stages.{stages_refusal};
 ghost use Rattle.stages.specs.Pictures.{gray_after, bits_after, denoised_after, means_after, least_after, greatest_after, edges_after, nears_after};
 ghost use Rattle.chain.specs.Chain.{entry_refusal, entry_answer, detections_after};
 
-use lcr_core::{Outcome, number};
+use lcr_core::{Refusal, number};
 
 // What is refused before a byte is written, for `len` picture bytes and lent slices of these lengths.
 fn check_entry(
@@ -23,20 +23,17 @@ fn check_entry(
     edges: usize,
     nears: usize,
     detections: usize,
-) -> Outcome
+) -> Result<(), Refusal>
     ensures { number_of result ≡ entry_refusal (stages_refusal len width height stride format gray bits denoised (means ∷ least ∷ greatest ∷ edges ∷ nears ∷ [])) detections }
 {
-    let checked = stages::check_stages(
+    stages::check_stages(
         len, width, height, stride, format, gray, bits, denoised, means, least, greatest, edges,
         nears,
-    );
-    if number(checked) != 0 {
-        return checked;
-    }
+    )?;
     if detections < firmware::SIZE {
-        return Outcome::ShortOutput;
+        return Err(Refusal::ShortOutput);
     }
-    Outcome::Done
+    Ok(())
 }
 
 // The chain, and its detections as bytes in `detections`. Refusals 1 to 5 come before a byte is written; after 6, too many finders, all but `detections`

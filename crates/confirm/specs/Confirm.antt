@@ -11,8 +11,6 @@ use Rattle.binary.specs.declared.line.End.{End}
 use Rattle.binary.specs.declared.line.End.TheVariants.{Change, Edge, Limit}
 use Rattle.binary.specs.declared.line.Run.{Run}
 use Rattle.ratio.specs.Ratio.{match_of}
-use Rattle.ratio.specs.declared.Match.{Match}
-use Rattle.ratio.specs.declared.Match.TheVariants as match
 use Rattle.transform.specs.declared.Point.{Point}
 use Rattle.confirm.specs.declared.Side.{Side}
 
@@ -38,9 +36,9 @@ unfoldable pub side_after : (ℕ → Bool) → ℕ → ℕ → ℕ → Side
 side_after f len limit i = let light = limited_after false f len limit i in side_of light (limited_after true f len limit (i + light.count))
 
 -- the centre, where the runs pass
-abbrev pub centre_if : Match → Float → Option Float
-centre_if (match.Module m) x = Some x
-centre_if match.Nothing x = None
+abbrev pub centre_if : Option Float → Float → Option Float
+centre_if (Some m) x = Some x
+centre_if None x = None
 
 -- a core of so many pixels from pixel `top` on, between two sides
 unfoldable pub centre_of : Side → ℕ → Side → ℕ → Option Float

@@ -6,7 +6,6 @@ ghost use Rattle.binary.specs.Line.{pixel};
 ghost use Rattle.confirm.specs.Confirm.{limit_of, is_cut, side_of, side_before, side_after, centre_of, core_of, confirm_vertical, confirm_horizontal, row_confirmed, column_confirmed, confirmed_on};
 
 use binary::line::{End, Run, limited_back, limited_on};
-use ratio::Match;
 use transform::Point;
 
 // The runs beyond a core on one side, and whether the limit ended one of them.
@@ -63,8 +62,8 @@ fn centre_of(a: Side, core: u16, b: Side, top: u16) -> Option<f32>
     ensures { result ≡ centre_of a core b top }
 {
     match ratio::matches_finder(a.dark, a.light, core, b.light, b.dark) {
-        Match::Module(_) => Some(top as f32 + core as f32 / 2.0),
-        Match::Nothing => None,
+        Some(_) => Some(top as f32 + core as f32 / 2.0),
+        None => None,
     }
 }
 

@@ -15,7 +15,7 @@ ghost use Rattle.candidates.specs.Candidates.{detect_answer};
 ghost use Rattle.firmware.specs.Firmware.{firmware_bytes};
 ghost use Rattle.entries.specs.Entries.{list_refusal, room_checks, candidates_refusal};
 
-use lcr_core::{Outcome, number};
+use lcr_core::{Refusal, number};
 
 // Gray conversion.
 pub fn plate_gray(
@@ -83,17 +83,14 @@ pub fn plate_finders(bits: &[u8], width: u32, height: u32, list: &mut [u8]) -> u
 }
 
 // What is refused before the search, for so many bytes of bits and of room.
-fn check_candidates(len: usize, width: u32, height: u32, room: usize) -> Outcome
+fn check_candidates(len: usize, width: u32, height: u32, room: usize) -> Result<(), Refusal>
     ensures { number_of result ≡ first_of (room_checks len width height room) }
 {
-    let checked = binary::refusal::check_bits(len, width, height);
-    if number(checked) != 0 {
-        return checked;
-    }
+    binary::refusal::check_bits(len, width, height)?;
     if room < firmware::SIZE {
-        return Outcome::ShortOutput;
+        return Err(Refusal::ShortOutput);
     }
-    Outcome::Done
+    Ok(())
 }
 
 // The detections, which leaves the firmware's bytes.

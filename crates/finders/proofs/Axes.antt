@@ -1,4 +1,5 @@
 -- The lines of an axis: how many hits they can add, and that the rows and then the columns give all sightings. Assumes nothing.
+use Rattle.std.specs.Prelude.{Option, Some, None}
 use Rattle.std.proofs.Common.{◌≡◌, ℕ, zero, suc, ◌+◌, ◌-◌, ◌*◌, ◌/◌, ◌<◌, ◌≤◌, Bool, true, false, cond, not, List, [], ◌∷◌, length, ap, ◌∙◌, arith, length-append}
 use mathlib.Core.Bool.{beq}
 use lib.Ieee.{Float}
@@ -8,8 +9,6 @@ use Rattle.lcr_core.specs.Outcome.{max_side}
 use Rattle.lcr_core.specs.Passed.{Sides}
 use Rattle.binary.specs.Line.{pixel}
 use Rattle.ratio.specs.Ratio.{match_of}
-use Rattle.ratio.specs.declared.Match.{Match}
-use Rattle.ratio.specs.declared.Match.TheVariants as match
 use Rattle.confirm.specs.Confirm.{core_of, confirmed_on}
 use Rattle.std.specs.Prelude.{Option, Some, None}
 use Rattle.transform.specs.declared.Point.{Point}
@@ -26,9 +25,9 @@ window_one : (end a b c d e : ℕ) → length (window end a b c d e) ≤ 1
 unfolding window
 window_one end a b c d e = go (match_of a b c d e) _
   where
-    go : (m : Match) (x : Float) → length (hit_if m x) ≤ 1
-    go (match.Module m) x = omega arith
-    go match.Nothing x = omega arith
+    go : (m : Option Float) (x : Float) → length (hit_if m x) ≤ 1
+    go (Some m) x = omega arith
+    go None x = omega arith
 
 hits-length : (p : ℕ) (rs : List ℕ) → length (hits p rs) ≤ length rs
 unfolding hits

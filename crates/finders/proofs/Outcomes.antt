@@ -1,8 +1,8 @@
 -- What the searched table says of the answer, and the refusals. Assumes nothing.
 use Rattle.std.proofs.Common.{◌≡◌, ℕ, ◌+◌, ◌≤◌, Bool, true, false, cond, List, [], length, sym, refl, ap, ◌∙◌, true≢false, arith}
 use Rattle.lcr_core.specs.Outcome.{number_of, zero_side, large_side, unless}
-use Rattle.lcr_core.specs.declared.Outcome.{Outcome}
-use Rattle.lcr_core.specs.declared.Outcome.TheVariants.{FullTable}
+use Rattle.lcr_core.specs.declared.Refusal.{Refusal}
+use Rattle.lcr_core.specs.declared.Refusal.TheVariants.{FullTable}
 use Rattle.lcr_core.specs.Passed.{Sides}
 use Rattle.binary.specs.Refusal.{short_bits, bits_refusal}
 use Rattle.finders.specs.declared.Finders.{Finders}

@@ -1,4 +1,5 @@
 -- The hits of a line, window by window: what is left of them after some runs. Assumes nothing.
+use Rattle.std.specs.Prelude.{Option, Some, None}
 use Rattle.std.proofs.Common.{◌≡◌, ℕ, zero, suc, ◌+◌, ◌-◌, ◌*◌, ◌<◌, ◌≤◌, Bool, true, false, cond, not, ltb, List, [], ◌∷◌, ◌++◌, sym, refl, ap, ◌∙◌, inl, inr, add-zero, eq-or-lt_of_le, arith, ltb-true}
 use mathlib.Core.Bool.{beq, and-false}
 use native.Mathlib.Nat.{sub-zero}
@@ -8,8 +9,6 @@ use Rattle.float.specs.Steps.{minus32, over32, whole32}
 use Rattle.float.specs.Constants.{f2}
 use Rattle.binary.specs.Line.{run}
 use Rattle.ratio.specs.Ratio.{passes, near_one, match_of}
-use Rattle.ratio.specs.declared.Match.{Match}
-use Rattle.ratio.specs.declared.Match.TheVariants.{Module, Nothing}
 use Rattle.finders.specs.Hits.{runs, window, hits, line_hits}
 use Rattle.finders.specs.Inner.{runs_from, hits_after}
 use Rattle.finders.specs.declared.search.Window.{Window}
@@ -18,19 +17,19 @@ use Rattle.finders.specs.declared.search.Window.{Window}
 far_zero : (s : ℕ) → 0 < s → near_one s 0 ≡ false
 far_zero s h = lt-leb (20 * (4 * 0 - s + (s - 4 * 0))) (11 * s) (omega arith)
 
-first_empty : (b c d e : ℕ) → match_of 0 b c d e ≡ Nothing
+first_empty : (b c d e : ℕ) → match_of 0 b c d e ≡ None
 unfolding match_of passes
 first_empty b c d e = go (ltb 0 (0 + b + d + e)) refl
   where
-    go : (t : Bool) → ltb 0 (0 + b + d + e) ≡ t → match_of 0 b c d e ≡ Nothing
+    go : (t : Bool) → ltb 0 (0 + b + d + e) ≡ t → match_of 0 b c d e ≡ None
     go true h = rw (far_zero (0 + b + d + e) (ltb-true 0 (0 + b + d + e) h), and-false, and-false)
     go false h = rw (h, and-false, and-false)
 
-last_empty : (a b c d : ℕ) → match_of a b c d 0 ≡ Nothing
+last_empty : (a b c d : ℕ) → match_of a b c d 0 ≡ None
 unfolding match_of passes
 last_empty a b c d = go (ltb 0 (a + b + d + 0)) refl
   where
-    go : (t : Bool) → ltb 0 (a + b + d + 0) ≡ t → match_of a b c d 0 ≡ Nothing
+    go : (t : Bool) → ltb 0 (a + b + d + 0) ≡ t → match_of a b c d 0 ≡ None
     go true h = rw (far_zero (a + b + d + 0) (ltb-true 0 (a + b + d + 0) h), and-false, and-false, and-false)
     go false h = rw (h, and-false, and-false)
 
@@ -148,13 +147,13 @@ module _ {f : ℕ → Bool} {len c d e at l m : ℕ} (t : Turn f len c d e at l 
               omega arith
 
   -- one more hit, or none
-  module _ (r : Match) (R : r ≡ match_of c d e l m) where
-    pub hits_hit : (p : Float) → r ≡ Module p
+  module _ (r : Option Float) (R : r ≡ match_of c d e l m) where
+    pub hits_hit : (p : Float) → r ≡ Some p
         → hits_after f len (win c d e at)
         ≡ record { centre = minus32 (minus32 (minus32 (whole32 (at + l + m)) (whole32 m)) (whole32 l)) (over32 (whole32 e) f2); pitch = p } ∷ hits_after f len (win e l m (at + l + m))
     unfolding window
     hits_hit p g = remaining_step ∙ rw (← R, g)
 
-    pub hits_skip : r ≡ Nothing → hits_after f len (win c d e at) ≡ hits_after f len (win e l m (at + l + m))
+    pub hits_skip : r ≡ None → hits_after f len (win c d e at) ≡ hits_after f len (win e l m (at + l + m))
     unfolding window
     hits_skip g = remaining_step ∙ rw (← R, g)

@@ -3,7 +3,7 @@
 use Rattle.std.specs.Prelude.{ℕ, Bool, true, false, List, [], ◌∷◌, ◌++◌, length, take}
 use Rattle.lists.specs.Lists.{padded}
 use Rattle.lcr_core.specs.Outcome.{first_of, unless}
-use Rattle.lcr_core.specs.declared.Outcome.TheVariants.{FullTable}
+use Rattle.lcr_core.specs.declared.Refusal.TheVariants.{FullTable}
 use Rattle.binary.specs.Refusal.{bits_checks}
 use Rattle.finders.specs.Held.{Held, held, over}
 use Rattle.finders.specs.Search.{max_finders, found}
@@ -33,7 +33,7 @@ held_list (held fs) = fs
 
 -- 1, 2, 4 and 6, in this order, where a search of a picture of len bytes ends with s
 abbrev pub refusal_after : ℕ → ℕ → ℕ → Held → ℕ
-refusal_after len width height s = first_of (bits_checks len width height ++ (record { refuses = is_over s; outcome = FullTable } ∷ []))
+refusal_after len width height s = first_of (bits_checks len width height ++ (record { refuses = is_over s; refusal = FullTable } ∷ []))
 
 unfoldable pub find_refusal : List ℕ → ℕ → ℕ → ℕ
 find_refusal bits width height = refusal_after (length bits) width height (found bits width height)

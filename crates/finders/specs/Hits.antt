@@ -1,11 +1,9 @@
 -- The hits of a line (document 01, "Finding and ranking": five runs that pass, "one past the end counts as light"). Definitions only.
-use Rattle.std.specs.Prelude.{ℕ, zero, suc, ◌+◌, Bool, true, cond, not, List, [], ◌∷◌, ◌++◌, Float}
+use Rattle.std.specs.Prelude.{ℕ, zero, suc, ◌+◌, Bool, true, cond, not, List, [], ◌∷◌, ◌++◌, Float, Option, Some, None}
 use Rattle.std.specs.Bool.{beq}
 use Rattle.float.specs.Steps.{minus32, over32, whole32}
 use Rattle.float.specs.Constants.{f2}
 use Rattle.ratio.specs.Ratio.{match_of}
-use Rattle.ratio.specs.declared.Match.{Match}
-use Rattle.ratio.specs.declared.Match.TheVariants.{Module, Nothing}
 
 -- five runs that pass: where on the line the third has its centre, and the module
 pub record Hit : Type 0 where
@@ -19,9 +17,9 @@ runs f colour k i zero = k ∷ []
 runs f colour k i (suc n) = cond (beq (f i) colour) (runs f colour (suc k) (suc i) n) (k ∷ runs f (not colour) 1 (suc i) n)
 
 -- a hit with its centre at x, where the runs pass
-abbrev pub hit_if : Match → Float → List Hit
-hit_if (Module m) x = record { centre = x; pitch = m } ∷ []
-hit_if Nothing x = []
+abbrev pub hit_if : Option Float → Float → List Hit
+hit_if (Some m) x = record { centre = x; pitch = m } ∷ []
+hit_if None x = []
 
 -- the hit of the runs a, b, c, d and e that end before pixel `end`
 unfoldable pub window : ℕ → ℕ → ℕ → ℕ → ℕ → ℕ → List Hit

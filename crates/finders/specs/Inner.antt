@@ -1,9 +1,9 @@
 -- The search as the code has it. For contracts of inner functions, and for proofs.
 use Rattle.std.specs.Prelude.{◌≡◌, ℕ, zero, suc, ◌+◌, ◌-◌, ◌*◌, ◌/◌, ◌^◌, ◌<◌, ◌≤◌, Bool, true, false, cond, List, [], ◌∷◌, length, nat_lt}
 use Rattle.lists.specs.Lists.{Each, range, folded, first_where, flat_map}
-use Rattle.lcr_core.specs.Outcome.{number_of, max_side}
-use Rattle.lcr_core.specs.declared.Outcome.{Outcome}
-use Rattle.lcr_core.specs.declared.Outcome.TheVariants.{FullTable}
+use Rattle.lcr_core.specs.Outcome.{refusal_number, max_side}
+use Rattle.lcr_core.specs.declared.Refusal.{Refusal}
+use Rattle.lcr_core.specs.declared.Refusal.TheVariants.{FullTable}
 use Rattle.binary.specs.Line.{pixel}
 use Rattle.finders.specs.Hits.{Hit, runs, hits, line_hits}
 use Rattle.finders.specs.Held.{Sighting, Held, held, over, merge_next}
@@ -117,8 +117,8 @@ abbrev pub keep : List Finder → Finder → List Finder
 keep fs f = cond (stays f) (insert fs f) fs
 
 -- ---- the answer
-abbrev pub refused : Outcome → Found
-refused o = record { refusal = number_of o; finders = table_of [] }
+abbrev pub refused : Refusal → Found
+refused o = record { refusal = refusal_number o; finders = table_of [] }
 
 abbrev pub outcome : Held → Found
 outcome over = refused FullTable

@@ -9,7 +9,7 @@ ghost use Rattle.finders.specs.Inner.{refused, outcome};
 
 use geometry::Finder;
 use held::Merged;
-use lcr_core::{Outcome, number};
+use lcr_core::Refusal;
 use rank::ranked_finders;
 use search::scan_axis;
 
@@ -44,12 +44,12 @@ pub fn no_finders() -> Finders
     }
 }
 
-fn refuse(o: Outcome) -> Found
-    ensures { result ≡ refused o }
+fn refuse(refusal: Refusal) -> Found
+    ensures { result ≡ refused refusal }
 {
     let none = no_finders();
     Found {
-        refusal: number(o),
+        refusal: u8::from(refusal),
         finders: none,
     }
 }
@@ -66,7 +66,7 @@ fn searched(bits: &[u8], width: u16, height: u16) -> Found
     let rows = scan_axis(bits, width, height, false, start);
     let all = scan_axis(bits, width, height, true, rows);
     if all.full {
-        return refuse(Outcome::FullTable);
+        return refuse(Refusal::FullTable);
     }
     let held = all.finders;
     let order = ranked_finders(held);
@@ -80,9 +80,8 @@ fn searched(bits: &[u8], width: u16, height: u16) -> Found
 pub fn find_finders(bits: &[u8], width: u32, height: u32) -> Found
     ensures { result ≡ answer_of bits.now width height }
 {
-    let checked = binary::refusal::check_bits(bits.len(), width, height);
-    if number(checked) != 0 {
-        return refuse(checked);
+    match binary::refusal::check_bits(bits.len(), width, height) {
+        Ok(()) => searched(bits, width as u16, height as u16),
+        Err(refusal) => refuse(refusal),
     }
-    searched(bits, width as u16, height as u16)
 }

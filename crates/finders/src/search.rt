@@ -10,7 +10,6 @@ ghost use Rattle.finders.specs.Inner.{merged_of, held_of, Sound, NextIs, Sighted
 use crate::held::{Merged, merge_into};
 use binary::line::run_on;
 use confirm::confirm_hit;
-use ratio::Match;
 
 // A line to scan: row or column `number`, its pixels `start`, `start + stride` and so on, `len` of them.
 #[derive(Clone, Copy)]
@@ -60,7 +59,7 @@ pub fn next_hit(bits: &[u8], start: u32, stride: u32, len: u16, w: Window) -> Ne
         let dark = run_on(bits, start, stride, next, len - next, true);
         let end = next + dark;
         match ratio::matches_finder(c, d, e, light, dark) {
-            Match::Module(module) => {
+            Some(module) => {
                 let centre = end as f32 - dark as f32 - light as f32 - e as f32 / 2.0;
                 return Next::Hit(
                     centre,
@@ -73,7 +72,7 @@ pub fn next_hit(bits: &[u8], start: u32, stride: u32, len: u16, w: Window) -> Ne
                     },
                 );
             }
-            Match::Nothing => {}
+            None => {}
         }
         c = e;
         d = light;

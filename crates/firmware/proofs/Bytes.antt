@@ -1,4 +1,5 @@
 -- The bytes of the detections as they are written, piece after piece. Assumes nothing.
+use Rattle.std.specs.Prelude.{Option, Some, None}
 use mathlib.Core.Path.{◌≡◌, refl, sym, ap, ◌∙◌}
 use mathlib.Core.List.{List, [], ◌∷◌, ◌++◌}
 use Prim.Native.Nat.{ℕ, suc, ◌+◌, ◌*◌, ◌%◌, ◌<◌}
@@ -13,11 +14,10 @@ use Rattle.little_endian.proofs.Pieces.{put_then, length_flat, piece_more}
 use Rattle.little_endian.proofs.Round.{length_bytes}
 use Rattle.transform.specs.declared.Transform.{Transform}
 use Rattle.geometry.specs.declared.Finder.{Finder}
-use Rattle.geometry.specs.declared.Marker.{Marker}
-use Rattle.geometry.specs.declared.Marker.TheVariants.{At, Missing}
 use Rattle.candidates.specs.declared.Detection.{Detection}
 use Rattle.candidates.specs.declared.Detections.{Detections}
 use Rattle.firmware.specs.Firmware.{single_bytes, double_bytes, finder_bytes, marker_bytes, numbers_of, transform_bytes, detection_bytes, detection_size, firmware_bytes}
+use Rattle.transform.specs.declared.Point.{Point}
 
 -- ---- lengths
 
@@ -44,9 +44,9 @@ length_finder f =
 length-flagged : (b x y : ℕ) → length (b ∷ (bytes_le 4 x ++ bytes_le 4 y)) ≡ 9
 length-flagged b x y = ap suc (long_by 4 4 (bytes_le 4 x) (bytes_le 4 y) (length_single x) (length_single y))
 
-pub length_marker : (m : Marker) → length (marker_bytes m) ≡ 9
-length_marker (At p) = length-flagged 1 (to_bits binary32 p.x) (to_bits binary32 p.y)
-length_marker Missing = length-flagged 0 0 0
+pub length_marker : (m : Option Point) → length (marker_bytes m) ≡ 9
+length_marker (Some p) = length-flagged 1 (to_bits binary32 p.x) (to_bits binary32 p.y)
+length_marker None = length-flagged 0 0 0
 
 pub length_transform : (t : Transform) → length (transform_bytes t) ≡ 64
 length_transform t = length_flat double_bytes 8 length_double (numbers_of t) ∙ rw (length-tabulate 8 (λ i. get_or t.m i nan))

@@ -1,17 +1,16 @@
 -- The detections as the unit's firmware takes them (document 01, last section): "little-endian: their count in one byte, then for each 122 bytes: x, y,
 -- module, confirmations of its three finders (four bytes each), version, marker flag 1 or 0 (one byte each), marker x and y (four bytes each, 0 without a
 -- marker), the eight transform numbers (eight bytes each). Places of missing detections, up to three, are zero." Definitions only.
-use Rattle.std.specs.Prelude.{ℕ, ◌+◌, ◌*◌, List, [], ◌∷◌, ◌++◌, get_or, Float}
+use Rattle.std.specs.Prelude.{ℕ, ◌+◌, ◌*◌, List, [], ◌∷◌, ◌++◌, get_or, Float, Option, Some, None}
 use Rattle.std.specs.Float.{nan, binary32, binary64}
 use Rattle.std.specs.Float.Ieee.{to_bits}
 use Rattle.lists.specs.Lists.{tabulate, flat_map}
 use Rattle.little_endian.specs.Bytes.{bytes_le}
 use Rattle.transform.specs.declared.Transform.{Transform}
 use Rattle.geometry.specs.declared.Finder.{Finder}
-use Rattle.geometry.specs.declared.Marker.{Marker}
-use Rattle.geometry.specs.declared.Marker.TheVariants.{At, Missing}
 use Rattle.candidates.specs.declared.Detection.{Detection}
 use Rattle.candidates.specs.declared.Detections.{Detections}
+use Rattle.transform.specs.declared.Point.{Point}
 
 -- an f32 by its bits, in four bytes
 abbrev pub single_bytes : Float → List ℕ
@@ -26,9 +25,9 @@ unfoldable pub finder_bytes : Finder → List ℕ
 finder_bytes f = single_bytes f.x ++ (single_bytes f.y ++ (single_bytes f.«module» ++ bytes_le 4 f.confirmations))
 
 -- the marker flag, and then its x and y
-abbrev pub marker_bytes : Marker → List ℕ
-marker_bytes (At p) = 1 ∷ (single_bytes p.x ++ single_bytes p.y)
-marker_bytes Missing = 0 ∷ (bytes_le 4 0 ++ bytes_le 4 0)
+abbrev pub marker_bytes : Option Point → List ℕ
+marker_bytes (Some p) = 1 ∷ (single_bytes p.x ++ single_bytes p.y)
+marker_bytes None = 0 ∷ (bytes_le 4 0 ++ bytes_le 4 0)
 
 -- the eight transform numbers
 abbrev pub numbers_of : Transform → List Float

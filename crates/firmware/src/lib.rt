@@ -6,9 +6,9 @@ ghost use Rattle.little_endian.specs.Bytes.{put};
 ghost use Rattle.firmware.specs.Firmware.{finder_bytes, marker_bytes, transform_bytes, detection_bytes, firmware_bytes};
 
 use candidates::{Detection, Detections};
-use geometry::{Finder, Marker};
+use geometry::Finder;
 use little_endian::{put8, put32, put64};
-use transform::Transform;
+use transform::{Point, Transform};
 
 // The bytes that the detections take.
 pub const SIZE: usize = 367;
@@ -23,17 +23,17 @@ fn put_finder(out: &mut [u8], at: u32, f: Finder)
     put32(out, at + 12, f.confirmations);
 }
 
-fn put_marker(out: &mut [u8], at: u32, m: Marker)
+fn put_marker(out: &mut [u8], at: u32, m: Option<Point>)
     requires { at < 2 ^ 16 }
     ensures { out.new ≡ put (marker_bytes m) at out.old }
 {
     match m {
-        Marker::At(p) => {
+        Some(p) => {
             put8(out, at, 1);
             put32(out, at + 1, float::bits32(p.x));
             put32(out, at + 5, float::bits32(p.y));
         }
-        Marker::Missing => {
+        None => {
             put8(out, at, 0);
             put32(out, at + 1, 0);
             put32(out, at + 5, 0);

@@ -1,4 +1,5 @@
 -- The answers put together, from the values that the calls gave. Assumes nothing.
+use Rattle.std.specs.Prelude.{Some, None, Option, Ok, Err, Result}
 use mathlib.Core.Path.{◌≡◌, refl, sym, ap, ◌∙◌}
 use mathlib.Core.Bool.{Bool, true, false, cond, ◌||◌}
 use Prim.Native.Nat.{ℕ, ◌+◌, ◌≤◌, ◌<◌, min}
@@ -13,19 +14,16 @@ use Rattle.transform.specs.declared.Triangle.{Triangle}
 use Rattle.transform.specs.declared.Fit.{Fit}
 use Rattle.transform.specs.declared.Transform.{Transform}
 use Rattle.transform.specs.Fit.{quad_fit, zero_transform}
-use Rattle.lcr_core.specs.Outcome.{number_of}
-use Rattle.lcr_core.specs.declared.Outcome.TheVariants.{BadVersion}
-use Rattle.lcr_core.specs.Version.{valid, new_of, checked_number, version_refusal, side_of}
-use Rattle.lcr_core.specs.declared.version.Checked.{Checked}
-use Rattle.lcr_core.specs.declared.version.Checked.TheVariants.{Is, Refused}
+use Rattle.lcr_core.specs.Outcome.{refusal_number, number_of, unless}
+use Rattle.lcr_core.proofs.Checks.{unless_error}
+use Rattle.lcr_core.specs.declared.Refusal.{Refusal}
+use Rattle.lcr_core.specs.declared.Refusal.TheVariants.{BadVersion}
+use Rattle.lcr_core.specs.Version.{valid, new_of, version_refusal, side_of}
 use Rattle.lcr_core.specs.declared.version.Version.{Version}
-use Rattle.lcr_core.specs.declared.version.Found.TheVariants as found
 use Rattle.geometry.specs.Order.{point}
 use Rattle.geometry.specs.Estimate.{side_in, nearest_version, estimate_of}
-use Rattle.geometry.specs.Build.{modules_of, pixels_of, affine_of, homography_of, symbol_fit, built_of}
+use Rattle.geometry.specs.Build.{modules_of, pixels_of, affine_of, homography_of, no_fit, symbol_fit, built_of}
 use Rattle.geometry.specs.declared.Corners.{Corners}
-use Rattle.geometry.specs.declared.Marker.{Marker}
-use Rattle.geometry.specs.declared.Marker.TheVariants.{At, Missing}
 use Rattle.geometry.specs.declared.Built.{Built}
 
 -- ---- the version
@@ -45,25 +43,25 @@ or_right true b h = refl
 or_right false b h = h
 
 module _ (c : Corners) where
-  pub small-tl : le c.tl.«module» f0 ≡ true → found.Nothing ≡ estimate_of c
+  pub small-tl : le c.tl.«module» f0 ≡ true → None ≡ estimate_of c
   unfolding estimate_of
   small-tl h = rw h
 
-  pub small-tr : le c.tr.«module» f0 ≡ true → found.Nothing ≡ estimate_of c
+  pub small-tr : le c.tr.«module» f0 ≡ true → None ≡ estimate_of c
   unfolding estimate_of
   small-tr h = rw (or_right (le c.tl.«module» f0) (le c.tr.«module» f0) h)
 
-  pub small-bl : le c.bl.«module» f0 ≡ true → found.Nothing ≡ estimate_of c
+  pub small-bl : le c.bl.«module» f0 ≡ true → None ≡ estimate_of c
   unfolding estimate_of
   small-bl h = rw (or_right (le c.tl.«module» f0 || le c.tr.«module» f0) (le c.bl.«module» f0) h)
 
   pub estimated : (s : Float) (n : ℕ) → le c.tl.«module» f0 ≡ false → le c.tr.«module» f0 ≡ false → le c.bl.«module» f0 ≡ false
-      → s ≡ side_in c → n ≡ nearest_version s → found.Is (record { 0 = n }) ≡ estimate_of c
+      → s ≡ side_in c → n ≡ nearest_version s → Some (record { 0 = n }) ≡ estimate_of c
   unfolding estimate_of
   estimated s n f g h e k = rw (f, g, h, k, e)
 
 -- ---- the transform
-module _ (c : Corners) (m : Marker) (a : Point) (v side : ℕ) (f h : Fit) (e : m ≡ At a) (s : side ≡ side_of v) (k : f ≡ affine_of c (whole32 side)) (l : h ≡ homography_of c a (whole32 side)) where
+module _ (c : Corners) (m : Option Point) (a : Point) (v side : ℕ) (f h : Fit) (e : m ≡ Some a) (s : side ≡ side_of v) (k : f ≡ affine_of c (whole32 side)) (l : h ≡ homography_of c a (whole32 side)) where
   pub fit-first : v < 2 → f ≡ symbol_fit c m v
   unfolding symbol_fit
   fit-first g = rw (e, lt-ltb v 2 g, k, s)
@@ -81,27 +79,28 @@ pub homography-is : (c : Corners) (m : Point) (side : Float) (s d : Triangle) (r
 unfolding homography_of
 homography-is c m side s d r e g h = cc
 
-pub fit-missing : (c : Corners) (m : Marker) (v side : ℕ) (f : Fit) → m ≡ Missing → side ≡ side_of v → f ≡ affine_of c (whole32 side) → f ≡ symbol_fit c m v
+pub fit-missing : (c : Corners) (m : Option Point) (v side : ℕ) (f : Fit) → m ≡ None → side ≡ side_of v → f ≡ affine_of c (whole32 side) → f ≡ symbol_fit c m v
 unfolding symbol_fit
 fit-missing c m v side f e s k = rw (e, k, s)
 
 -- a valid version is answered as it is
-same_version : (v : ℕ) (w : Version) → Is w ≡ new_of v → w.0 ≡ v
+same_version : (v : ℕ) (w : Version) → Ok w ≡ new_of v → w.0 ≡ v
 same_version v w e = go (valid v) e
   where
-    go : (b : Bool) → Is w ≡ cond b (Is (record { 0 = v })) Refused → w.0 ≡ v
+    go : (b : Bool) → Ok w ≡ cond b (Ok (record { 0 = v })) (Err BadVersion) → w.0 ≡ v
     go true k = cc
     go false k = let z : ◌≡◌ {A = ℕ} 0 1 = cc in absurd (omega arith)
 
-module _ (c : Corners) (m : Marker) (v : ℕ) (r : Checked) (e : (r ≡ new_of v) × (checked_number r ≡ version_refusal v)) where
-  pub built : (w : Version) (f : Fit) → r ≡ Is w → f ≡ symbol_fit c m w.0 → ◌≡◌ {A = Built} (record { refusal = 0; fit = f }) (built_of c m v)
+module _ (c : Corners) (m : Option Point) (v : ℕ) (r : Result Version Refusal) (e : (r ≡ new_of v) × (number_of r ≡ version_refusal v)) where
+  pub built : (w : Version) (f : Fit) → r ≡ Ok w → f ≡ symbol_fit c m w.0 → ◌≡◌ {A = Built} (record { refusal = 0; fit = f }) (built_of c m v)
   unfolding built_of
   built w f h g =
-      let n : 0 ≡ version_refusal v = ap checked_number (sym h) ∙ e.1 in
+      let n : 0 ≡ version_refusal v = ap number_of (sym h) ∙ e.1 in
       rw (← n, g, same_version v w (sym h ∙ e.0))
 
-  pub not-built : (n : ℕ) (z : Transform) → r ≡ Refused → n ≡ number_of BadVersion → z ≡ zero_transform → ◌≡◌ {A = Built} (record { refusal = n; fit = record { found = false; transform = z } }) (built_of c m v)
+  pub not_built : (n : ℕ) (z : Transform) (x : Refusal) → r ≡ Err x → n ≡ refusal_number x → z ≡ zero_transform → ◌≡◌ {A = Built} (record { refusal = n; fit = record { found = false; transform = z } }) (built_of c m v)
   unfolding built_of
-  not-built n z h o k =
-      let q : number_of BadVersion ≡ version_refusal v = ap checked_number (sym h) ∙ e.1 in
-      rw (← q, o, k)
+  not_built n z x h o k =
+      let q : refusal_number x ≡ version_refusal v = ap number_of (sym h) ∙ e.1 in
+      let u : no_fit ≡ unless (version_refusal v) no_fit (symbol_fit c m v) = unless_error x _ _ _ q in
+      cc

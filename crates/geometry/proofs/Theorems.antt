@@ -1,4 +1,5 @@
 -- What the definitions say of the order, the score, the version and the transform. Assumes nothing.
+use Rattle.std.specs.Prelude.{Option, Some, None}
 use mathlib.Core.Path.{◌≡◌, refl, sym}
 use mathlib.Core.Logic.{◌⊎◌, inl, inr}
 use mathlib.Core.Bool.{Bool, true, false, cond, not, ◌&&◌, true≢false}
@@ -22,8 +23,7 @@ use Rattle.lcr_core.proofs.Checks.{either, unless_either}
 use Rattle.geometry.specs.Build.{affine_of, homography_of, or_else, symbol_fit, no_fit, built_of}
 use Rattle.geometry.specs.declared.Finder.{Finder}
 use Rattle.geometry.specs.declared.Corners.{Corners}
-use Rattle.geometry.specs.declared.Marker.{Marker}
-use Rattle.geometry.specs.declared.Marker.TheVariants.{At as Found, Missing}
+use Rattle.transform.specs.declared.Point.{Point}
 
 -- ---- the corners are the three finders, none lost and none twice
 
@@ -106,15 +106,15 @@ module _ (c : Corners) where
   abbrev PlainFit : Fit → Type 0
   PlainFit f = Plain f.transform
 
-  fit_plain : (a : Marker) (v : ℕ) → Plain (symbol_fit c a v).transform
+  fit_plain : (a : Option Point) (v : ℕ) → Plain (symbol_fit c a v).transform
   unfolding symbol_fit homography_of
-  fit_plain Missing v = affine_plain (whole32 (side_of v))
-  fit_plain (Found p) v =
+  fit_plain None v = affine_plain (whole32 (side_of v))
+  fit_plain (Some p) v =
       let side = whole32 (side_of v) in
       let h = homography_of c p side in
       let g = affine_of c side in
       either PlainFit (ltb v 2) g (or_else h g) (affine_plain side) (either PlainFit h.found h g (quad_plain _ _) (affine_plain side))
 
-  pub built_plain : (a : Marker) (v : ℕ) → Plain (built_of c a v).fit.transform
+  pub built_plain : (a : Option Point) (v : ℕ) → Plain (built_of c a v).fit.transform
   unfolding built_of
   built_plain a v = unless_either PlainFit (version_refusal v) no_fit (symbol_fit c a v) refl (fit_plain a v)

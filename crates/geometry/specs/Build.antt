@@ -1,6 +1,6 @@
 -- The transform from the finders and, from version 2 on, the alignment marker (`build_transform`). Document 01: "`build_transform`: 7", a version outside
 -- 1 to 64, with every other field zero. Definitions only.
-use Rattle.std.specs.Prelude.{false, cond, ℕ, ltb, Float}
+use Rattle.std.specs.Prelude.{false, cond, ℕ, ltb, Float, Option, Some, None}
 use Rattle.float.specs.Steps.{minus32, whole32}
 use Rattle.float.specs.Constants.{f3_5, f6_5}
 use Rattle.transform.specs.Fit.{quad_fit, triangle_fit, zero_transform}
@@ -11,8 +11,6 @@ use Rattle.lcr_core.specs.Outcome.{unless}
 use Rattle.lcr_core.specs.Version.{version_refusal, side_of}
 use Rattle.geometry.specs.Order.{point, centre_of}
 use Rattle.geometry.specs.declared.Corners.{Corners}
-use Rattle.geometry.specs.declared.Marker.{Marker}
-use Rattle.geometry.specs.declared.Marker.TheVariants.{At, Missing}
 use Rattle.geometry.specs.declared.Built.{Built}
 
 -- the finders' centres in modules, 3.5 from the sides, and in pixels
@@ -38,9 +36,9 @@ abbrev pub or_else : Fit → Fit → Fit
 or_else f g = cond f.found f g
 
 -- from version 2 on the homography where there is a marker; else, or where there is no homography, the affine map
-unfoldable pub symbol_fit : Corners → Marker → ℕ → Fit
-symbol_fit c Missing v = affine_of c (whole32 (side_of v))
-symbol_fit c (At a) v =
+unfoldable pub symbol_fit : Corners → Option Point → ℕ → Fit
+symbol_fit c None v = affine_of c (whole32 (side_of v))
+symbol_fit c (Some a) v =
     let side = whole32 (side_of v) in
     cond (ltb v 2) (affine_of c side) (or_else (homography_of c a side) (affine_of c side))
 
@@ -49,5 +47,5 @@ abbrev pub no_fit : Fit
 no_fit = record { found = false; transform = zero_transform }
 
 -- `build_transform`
-unfoldable pub built_of : Corners → Marker → ℕ → Built
+unfoldable pub built_of : Corners → Option Point → ℕ → Built
 built_of c marker v = let n = version_refusal v in record { refusal = n; fit = unless n no_fit (symbol_fit c marker v) }

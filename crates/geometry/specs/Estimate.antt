@@ -1,16 +1,15 @@
 -- The version that three finders imply (`estimate_version`). Document 01: "a rounded value at the top of i32 gives 32". All steps are f32, in the order
 -- written. Definitions only.
-use Rattle.std.specs.Prelude.{cond, ◌||◌, ℕ, ◌+◌, min, Float}
+use Rattle.std.specs.Prelude.{cond, ◌||◌, ℕ, ◌+◌, min, Float, Option, Some, None}
 use Rattle.std.specs.Float.Ieee.{le, to_unsigned}
 use Rattle.std.specs.Float.{binary32}
 use Rattle.float.specs.Floats.{round_of}
 use Rattle.float.specs.Steps.{plus32, minus32, over32}
 use Rattle.float.specs.Constants.{f0, f2, f4, f7, f21}
-use Rattle.lcr_core.specs.declared.version.Found.{Found}
-use Rattle.lcr_core.specs.declared.version.Found.TheVariants.{Is, Nothing}
 use Rattle.geometry.specs.Order.{span_of}
 use Rattle.geometry.specs.declared.Finder.{Finder}
 use Rattle.geometry.specs.declared.Corners.{Corners}
+use Rattle.lcr_core.specs.declared.version.Version.{Version}
 
 -- from a finder to another in modules, by the mean of their own two modules
 unfoldable pub edge_of : Finder → Finder → Float
@@ -25,6 +24,6 @@ unfoldable pub nearest_version : Float → ℕ
 nearest_version side = min (to_unsigned 32 (round_of binary32 (over32 (minus32 side f21) f4)) + 1) 32
 
 -- `estimate_version`: none where a module is 0 or less
-unfoldable pub estimate_of : Corners → Found
+unfoldable pub estimate_of : Corners → Option Version
 estimate_of c =
-    cond (le c.tl.«module» f0 || le c.tr.«module» f0 || le c.bl.«module» f0) Nothing (Is (record { 0 = nearest_version (side_in c) }))
+    cond (le c.tl.«module» f0 || le c.tr.«module» f0 || le c.bl.«module» f0) None (Some (record { 0 = nearest_version (side_in c) }))

@@ -1,7 +1,7 @@
 -- Document 01: "A triple is out by pitch if the largest distance of a module from the mean exceeds half the mean, by edge if a leg is under 1, by angle if
 -- |cosine| exceeds 0.7, by ratio if the leg ratio exceeds 1.6. Score: |cosine| + (ratio − 1). A triple is admissible if no rule puts it out and its score
 -- is a number." All steps are f32, in the order written. Definitions only.
-use Rattle.std.specs.Prelude.{Bool, true, false, not, ◌&&◌, ◌||◌, Float}
+use Rattle.std.specs.Prelude.{Bool, true, false, not, ◌&&◌, ◌||◌, Float, Option, Some, None}
 use Rattle.std.specs.Float.Ieee.{lt}
 use Rattle.float.specs.Floats.{is_number, abs_of, max_of}
 use Rattle.float.specs.Steps.{plus32, minus32, times32, over32}
@@ -9,8 +9,6 @@ use Rattle.float.specs.Constants.{f0, half, f0_7, f1, f1_6, f3}
 use Rattle.geometry.specs.Order.{span_of, order_of}
 use Rattle.geometry.specs.declared.Finder.{Finder}
 use Rattle.geometry.specs.declared.Corners.{Corners}
-use Rattle.geometry.specs.declared.score.Score.{Score}
-use Rattle.geometry.specs.declared.score.Score.TheVariants.{Out, Is}
 
 -- ---- pitch
 
@@ -79,6 +77,6 @@ unfoldable pub admissible : Finder → Finder → Finder → Bool
 admissible a b c = not (out_by_pitch a b c) && admissible_corners (order_of a b c)
 
 -- each case of the answer: the score of an admissible triple, and nothing of another
-abbrev pub answer : Bool → Float → Score
-answer true s = Is s
-answer false s = Out
+abbrev pub answer : Bool → Float → Option Float
+answer true s = Some s
+answer false s = None

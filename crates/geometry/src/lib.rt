@@ -6,8 +6,7 @@ ghost use Rattle.geometry.specs.Order.{zero_finder, span_of, span2_of, is_longes
 ghost use Rattle.geometry.specs.Estimate.{edge_of, side_in, nearest_version, estimate_of};
 ghost use Rattle.geometry.specs.Build.{modules_of, pixels_of, affine_of, homography_of, symbol_fit, built_of};
 
-use lcr_core::version::{Checked, Found, Version};
-use lcr_core::{Outcome, number};
+use lcr_core::version::Version;
 use transform::{Fit, Point, Quad, Transform, Triangle};
 
 pub mod score;
@@ -27,13 +26,6 @@ pub struct Corners {
     pub tl: Finder,
     pub tr: Finder,
     pub bl: Finder,
-}
-
-// The centre of the alignment marker, where it was found.
-#[derive(Clone, Copy)]
-pub enum Marker {
-    At(Point),
-    Missing,
 }
 
 // A transform or none, or a refusal, and then zeros.
@@ -137,19 +129,19 @@ fn nearest_version(side: f32) -> u8
 }
 
 // The version, or none.
-pub fn estimate_version(c: Corners) -> Found
+pub fn estimate_version(c: Corners) -> Option<Version>
     ensures { result ≡ estimate_of c }
 {
     if c.tl.module <= 0.0 {
-        return Found::Nothing;
+        return None;
     }
     if c.tr.module <= 0.0 {
-        return Found::Nothing;
+        return None;
     }
     if c.bl.module <= 0.0 {
-        return Found::Nothing;
+        return None;
     }
-    Found::Is(Version(nearest_version(side_in(c))))
+    Some(Version(nearest_version(side_in(c))))
 }
 
 // ---- the transform
@@ -220,12 +212,12 @@ fn homography(c: Corners, marker: Point, side: f32) -> Fit
     )
 }
 
-fn symbol_fit(c: Corners, marker: Marker, v: Version) -> Fit
+fn symbol_fit(c: Corners, marker: Option<Point>, v: Version) -> Fit
     ensures { result ≡ symbol_fit c marker v.0 }
 {
     let side = v.side() as f32;
     match marker {
-        Marker::At(a) => {
+        Some(a) => {
             if v.get() < 2 {
                 return affine(c, side);
             }
@@ -235,21 +227,21 @@ fn symbol_fit(c: Corners, marker: Marker, v: Version) -> Fit
             }
             affine(c, side)
         }
-        Marker::Missing => affine(c, side),
+        None => affine(c, side),
     }
 }
 
 // The map from the symbol's modules to pixels, or none; refused for a version outside 1 to 64.
-pub fn build_transform(c: Corners, marker: Marker, version: Version) -> Built
+pub fn build_transform(c: Corners, marker: Option<Point>, version: Version) -> Built
     ensures { result ≡ built_of c marker version.0 }
 {
     match Version::new(version.0) {
-        Checked::Is(v) => Built {
+        Ok(v) => Built {
             refusal: 0,
             fit: symbol_fit(c, marker, v),
         },
-        Checked::Refused => Built {
-            refusal: number(Outcome::BadVersion),
+        Err(refusal) => Built {
+            refusal: u8::from(refusal),
             fit: Fit {
                 found: false,
                 transform: Transform::zero(),

@@ -4,13 +4,6 @@ ghost use Rattle.geometry.specs.Score.{mean_of, out_by_pitch, dot_of, corner_sco
 
 use super::{Corners, Finder, order_finders, span};
 
-// The score of an admissible triple.
-#[derive(Clone, Copy)]
-pub enum Score {
-    Out,
-    Is(f32),
-}
-
 // The mean of the modules.
 pub fn mean_module(a: Finder, b: Finder, c: Finder) -> f32
     ensures { result ≡ mean_of a b c }
@@ -35,38 +28,38 @@ fn dot(f: Corners) -> f32
 }
 
 // How far the corner is from a right angle with equal legs.
-fn right_angle_score(f: Corners) -> Score
+fn right_angle_score(f: Corners) -> Option<f32>
     ensures { result ≡ answer (admissible_corners f) (corner_score f) }
 {
     let n1 = span(f.tl, f.tr);
     let n2 = span(f.tl, f.bl);
     if n1 < 1.0 {
-        return Score::Out;
+        return None;
     }
     if n2 < 1.0 {
-        return Score::Out;
+        return None;
     }
     let cos = float::abs32(dot(f) / (n1 * n2));
     if cos > 0.7 {
-        return Score::Out;
+        return None;
     }
     let ratio = float::max32(n1 / n2, n2 / n1);
     if ratio > 1.6 {
-        return Score::Out;
+        return None;
     }
     let score = cos + (ratio - 1.0);
     if score != score {
-        return Score::Out;
+        return None;
     }
-    Score::Is(score)
+    Some(score)
 }
 
-// Lower is better.
-pub fn triple_score(a: Finder, b: Finder, c: Finder) -> Score
+// The score of an admissible triple; lower is better.
+pub fn triple_score(a: Finder, b: Finder, c: Finder) -> Option<f32>
     ensures { result ≡ answer (admissible a b c) (score_of a b c) }
 {
     if out_by_pitch(a, b, c) {
-        Score::Out
+        None
     } else {
         right_angle_score(order_finders(a, b, c))
     }

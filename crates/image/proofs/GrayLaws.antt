@@ -1,4 +1,5 @@
 -- Laws of gray conversion. Assumes nothing.
+use Rattle.std.specs.Prelude.{Option, Some, None}
 use mathlib.Core.Path.{◌≡◌, refl, sym, ◌∙◌}
 use mathlib.Core.Bool.{Bool, cond, true, false}
 use mathlib.Core.List.{List}
@@ -19,15 +20,13 @@ use Rattle.image.specs.Gray.{channels_of, of_byte, is_nothing, unknown_format, s
 use Rattle.image.specs.Passed.{KnownFormat, GrayPassed}
 use Rattle.image.specs.declared.PixelFormat.{PixelFormat}
 use Rattle.image.specs.declared.PixelFormat.TheVariants.{Gray8, Rgb8, Rgba8}
-use Rattle.image.specs.declared.Found.{Found}
-use Rattle.image.specs.declared.Found.TheVariants.{Is, Nothing}
 
 -- a format that was found has its byte
-pub found_byte : (n : ℕ) (f : PixelFormat) → of_byte n ≡ Is f → channels_of f ≡ n
+pub found_byte : (n : ℕ) (f : PixelFormat) → of_byte n ≡ Some f → channels_of f ≡ n
 found_byte n f e = go (eqb n 1) refl (eqb n 3) refl (eqb n 4) refl e
   where
     go : (a : Bool) → eqb n 1 ≡ a → (b : Bool) → eqb n 3 ≡ b → (d : Bool) → eqb n 4 ≡ d
-        → cond a (Is Gray8) (cond b (Is Rgb8) (cond d (Is Rgba8) Nothing)) ≡ Is f → channels_of f ≡ n
+        → cond a (Some Gray8) (cond b (Some Rgb8) (cond d (Some Rgba8) None)) ≡ Some f → channels_of f ≡ n
     go true p b q d r k = let s : Gray8 ≡ f = cc in rw (← s) (sym (eqb-true n 1 p))
     go false p true q d r k = let s : Rgb8 ≡ f = cc in rw (← s) (sym (eqb-true n 3 q))
     go false p false q true r k = let s : Rgba8 ≡ f = cc in rw (← s) (sym (eqb-true n 4 r))
@@ -43,9 +42,9 @@ known n e = go (of_byte n) refl e
     bytes Rgb8 k = inr (inl (sym k))
     bytes Rgba8 k = inr (inr (sym k))
 
-    go : (o : Found) → of_byte n ≡ o → is_nothing o ≡ false → KnownFormat n
-    go (Is f) k h = bytes f (found_byte n f k)
-    go Nothing k h = let z : ◌≡◌ {A = Bool} true false = h in let y : ◌≡◌ {A = ℕ} 0 1 = cc in absurd (omega arith)
+    go : (o : Option PixelFormat) → of_byte n ≡ o → is_nothing o ≡ false → KnownFormat n
+    go (Some f) k h = bytes f (found_byte n f k)
+    go None k h = let z : ◌≡◌ {A = Bool} true false = h in let y : ◌≡◌ {A = ℕ} 0 1 = cc in absurd (omega arith)
 
 -- a colour pixel
 pub gray_colour : (p : List ℕ) (f i : ℕ) → 3 ≤ f → gray_of p f i ≡ gray_rule (get_or p i 0) (get_or p (i + 1) 0) (get_or p (i + 2) 0)

@@ -2,20 +2,23 @@
 -- read the old picture; border pixels and unused bits are copied"). Definitions only.
 use Rattle.std.specs.Prelude.{ℕ, ◌+◌, ◌-◌, ◌*◌, ◌/◌, ◌%◌, Bool, ◌&&◌, cond, List, [], ◌∷◌, length, ltb, leb}
 use Rattle.lists.specs.Lists.{filled, sum_to}
-use Rattle.lcr_core.specs.Outcome.{first_of, unless, zero_side, large_side}
-use Rattle.lcr_core.specs.declared.Outcome.TheVariants.{ZeroSide, LargeSide, ShortPicture, ShortOutput}
+use Rattle.lcr_core.specs.Outcome.{Check, first_of, unless, zero_side, large_side}
+use Rattle.lcr_core.specs.declared.Refusal.TheVariants.{ZeroSide, LargeSide, ShortPicture, ShortOutput}
 use Rattle.binary.specs.Binary.{bit, dark_bit, dark_at, byte_of, bytes_of}
 use Rattle.binary.specs.Refusal.{short_bits}
 
--- the refusal number for len bytes of bits, and room bytes for the result
+-- what is refused of len bytes of bits, with room bytes for the result: 1, 2, 4, 5, in this order
+abbrev pub denoised_checks : ℕ → ℕ → ℕ → ℕ → List Check
+denoised_checks len w h room =
+    record { refuses = zero_side w h; refusal = ZeroSide }
+    ∷ record { refuses = large_side w h; refusal = LargeSide }
+    ∷ record { refuses = short_bits len w h; refusal = ShortPicture }
+    ∷ record { refuses = short_bits room w h; refusal = ShortOutput }
+    ∷ []
+
+-- the number of the first that refuses
 unfoldable pub denoised_refusal : ℕ → ℕ → ℕ → ℕ → ℕ
-denoised_refusal len w h room =
-    first_of
-    (record { refuses = zero_side w h; outcome = ZeroSide }
-    ∷ record { refuses = large_side w h; outcome = LargeSide }
-    ∷ record { refuses = short_bits len w h; outcome = ShortPicture }
-    ∷ record { refuses = short_bits room w h; outcome = ShortOutput }
-    ∷ [])
+denoised_refusal len w h room = first_of (denoised_checks len w h room)
 
 -- whether the pixel at x, y has a neighbour on each side; an unused bit, whose row is past the last, has not
 unfoldable pub inside : ℕ → ℕ → ℕ → ℕ → Bool

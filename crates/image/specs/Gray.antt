@@ -1,13 +1,11 @@
 -- Gray conversion (document 01: refusal 3; "Gray conversion: 1, 2, 3, then 4 .., then 5 .."; "gray pixels keep their value"; document 02, N3: "the nearest
 -- whole number, halves up: (54 r + 183 g + 19 b + 128) / 256, rounded down"). Definitions only.
-use Rattle.std.specs.Prelude.{ℕ, ◌+◌, ◌-◌, ◌*◌, ◌/◌, ◌%◌, Bool, true, false, cond, ◌||◌, List, [], ◌∷◌, get_or, length, eqb, ltb}
+use Rattle.std.specs.Prelude.{ℕ, ◌+◌, ◌-◌, ◌*◌, ◌/◌, ◌%◌, Bool, true, false, cond, ◌||◌, List, [], ◌∷◌, get_or, length, eqb, ltb, Option, Some, None}
 use Rattle.lists.specs.Lists.{filled}
-use Rattle.lcr_core.specs.Outcome.{first_of, unless, zero_side, large_side}
-use Rattle.lcr_core.specs.declared.Outcome.TheVariants.{ZeroSide, LargeSide, UnknownFormat, ShortPicture, ShortOutput}
+use Rattle.lcr_core.specs.Outcome.{Check, first_of, unless, zero_side, large_side}
+use Rattle.lcr_core.specs.declared.Refusal.TheVariants.{ZeroSide, LargeSide, UnknownFormat, ShortPicture, ShortOutput}
 use Rattle.image.specs.declared.PixelFormat.{PixelFormat}
 use Rattle.image.specs.declared.PixelFormat.TheVariants.{Gray8, Rgb8, Rgba8}
-use Rattle.image.specs.declared.Found.{Found}
-use Rattle.image.specs.declared.Found.TheVariants.{Is, Nothing}
 
 -- the formats there are
 abbrev pub formats : List PixelFormat
@@ -20,18 +18,18 @@ channels_of Rgb8 = 3
 channels_of Rgba8 = 4
 
 -- the one whose byte it is, or none
-abbrev pub among : List PixelFormat → ℕ → Found
-among [] byte = Nothing
-among (f ∷ fs) byte = cond (eqb byte (channels_of f)) (Is f) (among fs byte)
+abbrev pub among : List PixelFormat → ℕ → Option PixelFormat
+among [] byte = None
+among (f ∷ fs) byte = cond (eqb byte (channels_of f)) (Some f) (among fs byte)
 
 -- of those there are
-abbrev pub of_byte : ℕ → Found
+abbrev pub of_byte : ℕ → Option PixelFormat
 of_byte byte = among formats byte
 
 -- whether there is none
-abbrev pub is_nothing : Found → Bool
-is_nothing (Is f) = false
-is_nothing Nothing = true
+abbrev pub is_nothing : Option PixelFormat → Bool
+is_nothing (Some f) = false
+is_nothing None = true
 
 -- 3: the byte of no format
 unfoldable pub unknown_format : ℕ → Bool
@@ -41,16 +39,19 @@ unknown_format byte = is_nothing (of_byte byte)
 unfoldable pub short_picture : ℕ → ℕ → ℕ → ℕ → ℕ → Bool
 short_picture len w h s channels = ltb s (w * channels) || ltb len ((h - 1) * s + w * channels)
 
--- the refusal number for len bytes with format byte f, and room bytes for the result
+-- what is refused of len bytes with format byte f, with room bytes for the result: 1, 2, 3, 4, 5, in this order
+abbrev pub gray_checks : ℕ → ℕ → ℕ → ℕ → ℕ → ℕ → List Check
+gray_checks len w h s f room =
+    record { refuses = zero_side w h; refusal = ZeroSide }
+    ∷ record { refuses = large_side w h; refusal = LargeSide }
+    ∷ record { refuses = unknown_format f; refusal = UnknownFormat }
+    ∷ record { refuses = short_picture len w h s f; refusal = ShortPicture }
+    ∷ record { refuses = ltb room (w * h); refusal = ShortOutput }
+    ∷ []
+
+-- the number of the first that refuses
 unfoldable pub gray_refusal : ℕ → ℕ → ℕ → ℕ → ℕ → ℕ → ℕ
-gray_refusal len w h s f room =
-    first_of
-    (record { refuses = zero_side w h; outcome = ZeroSide }
-    ∷ record { refuses = large_side w h; outcome = LargeSide }
-    ∷ record { refuses = unknown_format f; outcome = UnknownFormat }
-    ∷ record { refuses = short_picture len w h s f; outcome = ShortPicture }
-    ∷ record { refuses = ltb room (w * h); outcome = ShortOutput }
-    ∷ [])
+gray_refusal len w h s f room = first_of (gray_checks len w h s f room)
 
 -- the gray value of a colour, to the nearest
 abbrev pub gray_rule : ℕ → ℕ → ℕ → ℕ

@@ -7,25 +7,18 @@ ghost use Rattle.image.specs.Denoise.{denoised_refusal, inside, denoised_at, den
 ghost use Rattle.image.specs.Passed.{DenoisedPassed};
 ghost use Rattle.image.specs.Window.{behind, majority_of, chosen_at, pad_of, up_of, mid_of, down_of, Ready, Held, voted_at};
 
-use lcr_core::Outcome;
+use binary::refusal::{check_bits, short_bits};
+use lcr_core::Refusal;
 
 // What denoising refuses of `len` bytes of bits, with `room` bytes for the result.
-pub fn check_denoised(len: usize, width: u32, height: u32, room: usize) -> Outcome
+pub fn check_denoised(len: usize, width: u32, height: u32, room: usize) -> Result<(), Refusal>
     ensures { number_of result ≡ denoised_refusal len width height room }
 {
-    if lcr_core::zero_side(width, height) {
-        return Outcome::ZeroSide;
+    check_bits(len, width, height)?;
+    if short_bits(room, width, height) {
+        return Err(Refusal::ShortOutput);
     }
-    if lcr_core::large_side(width, height) {
-        return Outcome::LargeSide;
-    }
-    if binary::refusal::short_bits(len, width, height) {
-        return Outcome::ShortPicture;
-    }
-    if binary::refusal::short_bits(room, width, height) {
-        return Outcome::ShortOutput;
-    }
-    Outcome::Done
+    Ok(())
 }
 
 // Byte i of the picture behind `pad` light bytes; after its last byte all is light again.
@@ -248,14 +241,11 @@ fn denoise_bytes(bits: &[u8], w: u32, h: u32, out: &mut [u8])
 }
 
 // Denoises a picture of width × height pixels from bits into the first bytes of out: each pixel inside takes the colour of most of the nine about it.
-pub fn denoised(bits: &[u8], width: u32, height: u32, out: &mut [u8]) -> Outcome
+pub fn denoised(bits: &[u8], width: u32, height: u32, out: &mut [u8]) -> Result<(), Refusal>
     ensures number { number_of result ≡ denoised_refusal (length bits.now) width height (length out.old) }
     ensures written { out.new ≡ denoised_written bits.now width height out.old }
 {
-    let checked = check_denoised(bits.len(), width, height, out.len());
-    if lcr_core::number(checked) != 0 {
-        return checked;
-    }
+    check_denoised(bits.len(), width, height, out.len())?;
     denoise_bytes(bits, width, height, out);
-    Outcome::Done
+    Ok(())
 }

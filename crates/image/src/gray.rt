@@ -5,8 +5,8 @@ ghost use Rattle.lcr_core.specs.Outcome.{number_of};
 ghost use Rattle.image.specs.Gray.{short_picture, gray_refusal, gray_rule, gray_of, gray_at, gray_written};
 ghost use Rattle.image.specs.Passed.{KnownFormat, GrayPassed};
 
-use super::{Found, PixelFormat};
-use lcr_core::Outcome;
+use super::PixelFormat;
+use lcr_core::{Refusal, check_sides};
 
 // Whether the stride or the picture's bytes are too few.
 fn short_picture(len: usize, width: u32, height: u32, stride: u32, channels: usize) -> bool
@@ -25,26 +25,20 @@ pub fn check_gray(
     stride: u32,
     format: u8,
     room: usize,
-) -> Outcome
+) -> Result<(), Refusal>
     ensures { number_of result ≡ gray_refusal len width height stride format room }
 {
-    if lcr_core::zero_side(width, height) {
-        return Outcome::ZeroSide;
-    }
-    if lcr_core::large_side(width, height) {
-        return Outcome::LargeSide;
-    }
-    let found = PixelFormat::from_byte(format);
-    let Found::Is(known) = found else {
-        return Outcome::UnknownFormat;
+    check_sides(width, height)?;
+    let Some(known) = PixelFormat::from_byte(format) else {
+        return Err(Refusal::UnknownFormat);
     };
     if short_picture(len, width, height, stride, known.channels()) {
-        return Outcome::ShortPicture;
+        return Err(Refusal::ShortPicture);
     }
     if room < width as usize * height as usize {
-        return Outcome::ShortOutput;
+        return Err(Refusal::ShortOutput);
     }
-    Outcome::Done
+    Ok(())
 }
 
 // The gray value of a colour, to the nearest.
@@ -97,14 +91,11 @@ pub fn gray_buffer(
     stride: u32,
     format: u8,
     gray: &mut [u8],
-) -> Outcome
+) -> Result<(), Refusal>
     ensures number { number_of result ≡ gray_refusal (length «data».now) width height stride format (length gray.old) }
     ensures written { gray.new ≡ gray_written «data».now width height stride format gray.old }
 {
-    let checked = check_gray(data.len(), width, height, stride, format, gray.len());
-    if lcr_core::number(checked) != 0 {
-        return checked;
-    }
+    check_gray(data.len(), width, height, stride, format, gray.len())?;
     gray_rows(
         data,
         width as usize,
@@ -113,5 +104,5 @@ pub fn gray_buffer(
         format as usize,
         gray,
     );
-    Outcome::Done
+    Ok(())
 }

@@ -15,13 +15,6 @@ pub enum PixelFormat {
     Rgba8,
 }
 
-// A format, or none.
-#[derive(Clone, Copy)]
-pub enum Found {
-    Is(PixelFormat),
-    Nothing,
-}
-
 impl PixelFormat {
     // Bytes of a pixel, and the byte that stands for the format.
     pub fn channels(self) -> usize
@@ -35,14 +28,14 @@ impl PixelFormat {
     }
 
     // The format that a byte stands for, or none.
-    pub fn from_byte(byte: u8) -> Found
+    pub fn from_byte(byte: u8) -> Option<PixelFormat>
         ensures { result ≡ of_byte byte }
     {
         match byte {
-            1 => Found::Is(PixelFormat::Gray8),
-            3 => Found::Is(PixelFormat::Rgb8),
-            4 => Found::Is(PixelFormat::Rgba8),
-            _ => Found::Nothing,
+            1 => Some(PixelFormat::Gray8),
+            3 => Some(PixelFormat::Rgb8),
+            4 => Some(PixelFormat::Rgba8),
+            _ => None,
         }
     }
 }

@@ -1,29 +1,33 @@
 -- The eight refusal numbers (document 01, first section), the checks that give them, and what a refusal leaves. Definitions only.
-use Rattle.std.specs.Prelude.{ℕ, suc, zero, Bool, cond, ◌||◌, eqb, ltb, List, [], ◌∷◌}
-use Rattle.lcr_core.specs.declared.Outcome.{Outcome}
-use Rattle.lcr_core.specs.declared.Outcome.TheVariants.{Done, ZeroSide, LargeSide, UnknownFormat, ShortPicture, ShortOutput, FullTable, BadVersion, BadList}
+use Rattle.std.specs.Prelude.{ℕ, suc, zero, Bool, cond, ◌||◌, eqb, ltb, List, [], ◌∷◌, Result, Ok, Err}
+use Rattle.lcr_core.specs.declared.Refusal.{Refusal}
+use Rattle.lcr_core.specs.declared.Refusal.TheVariants.{ZeroSide, LargeSide, UnknownFormat, ShortPicture, ShortOutput, FullTable, BadVersion, BadList}
 
--- each answer's number: 0 is done
-abbrev pub number_of : Outcome → ℕ
-number_of Done = 0
-number_of ZeroSide = 1
-number_of LargeSide = 2
-number_of UnknownFormat = 3
-number_of ShortPicture = 4
-number_of ShortOutput = 5
-number_of FullTable = 6
-number_of BadVersion = 7
-number_of BadList = 8
+-- each refusal's number
+abbrev pub refusal_number : Refusal → ℕ
+refusal_number ZeroSide = 1
+refusal_number LargeSide = 2
+refusal_number UnknownFormat = 3
+refusal_number ShortPicture = 4
+refusal_number ShortOutput = 5
+refusal_number FullTable = 6
+refusal_number BadVersion = 7
+refusal_number BadList = 8
 
--- a check: whether it refuses, and what is then answered
+-- an answer's number: 0 is done
+abbrev pub number_of : {A : Type 0} → Result A Refusal → ℕ
+number_of (Ok done) = 0
+number_of (Err refusal) = refusal_number refusal
+
+-- a check: whether it refuses, and why
 pub record Check : Type 0 where
   pub refuses : Bool
-  pub outcome : Outcome
+  pub refusal : Refusal
 
--- the number that a list of checks gives: that of the first which refuses, or that of `Done`
+-- the number that a list of checks gives: that of the first which refuses, or 0
 abbrev pub first_of : List Check → ℕ
-first_of [] = number_of Done
-first_of (c ∷ cs) = cond c.refuses (number_of c.outcome) (first_of cs)
+first_of [] = 0
+first_of (c ∷ cs) = cond c.refuses (refusal_number c.refusal) (first_of cs)
 
 -- what a call leaves of what was lent: after a refusal all as it was, else what the stage writes
 abbrev pub unless : {A : Type 0} → ℕ → A → A → A
@@ -40,3 +44,10 @@ max_side = 4096
 
 unfoldable pub large_side : ℕ → ℕ → Bool
 large_side w h = ltb max_side w || ltb max_side h
+
+-- what every operation refuses first
+abbrev pub side_checks : ℕ → ℕ → List Check
+side_checks w h = record { refuses = zero_side w h; refusal = ZeroSide } ∷ record { refuses = large_side w h; refusal = LargeSide } ∷ []
+
+unfoldable pub sides_refusal : ℕ → ℕ → ℕ
+sides_refusal w h = first_of (side_checks w h)

@@ -1,16 +1,15 @@
-// What every stage shares: its answer with document 01's numbers, the checks of the sides, versions and colours.
+// What every stage shares: why it refuses, with document 01's numbers, the checks of the sides, versions and colours.
 #![tactic(auto)]
 
 ghost use Rattle.std.specs.Prelude.{◌≡◌};
-ghost use Rattle.lcr_core.specs.Outcome.{number_of, zero_side, large_side};
+ghost use Rattle.lcr_core.specs.Outcome.{refusal_number, number_of, zero_side, large_side, sides_refusal};
 
 pub mod color;
 pub mod version;
 
-// What an operation answers: done, or why it refused.
-#[derive(Clone, Copy)]
-pub enum Outcome {
-    Done,
+// Why an operation refuses.
+#[derive(Clone, Copy, Debug, PartialEq, Eq)]
+pub enum Refusal {
     ZeroSide,
     LargeSide,
     UnknownFormat,
@@ -21,20 +20,31 @@ pub enum Outcome {
     BadList,
 }
 
-// The number of an answer.
-pub fn number(o: Outcome) -> u8
-    ensures { result ≡ number_of o }
+// The number of a refusal.
+impl From<Refusal> for u8 {
+    ghost from_gives = { λ refusal n. n ≡ refusal_number refusal };
+
+    fn from(refusal: Refusal) -> u8 {
+        match refusal {
+            Refusal::ZeroSide => 1,
+            Refusal::LargeSide => 2,
+            Refusal::UnknownFormat => 3,
+            Refusal::ShortPicture => 4,
+            Refusal::ShortOutput => 5,
+            Refusal::FullTable => 6,
+            Refusal::BadVersion => 7,
+            Refusal::BadList => 8,
+        }
+    }
+}
+
+// The number of an answer, for C: 0 is done.
+pub fn number(answer: Result<(), Refusal>) -> u8
+    ensures { result ≡ number_of answer }
 {
-    match o {
-        Outcome::Done => 0,
-        Outcome::ZeroSide => 1,
-        Outcome::LargeSide => 2,
-        Outcome::UnknownFormat => 3,
-        Outcome::ShortPicture => 4,
-        Outcome::ShortOutput => 5,
-        Outcome::FullTable => 6,
-        Outcome::BadVersion => 7,
-        Outcome::BadList => 8,
+    match answer {
+        Ok(()) => 0,
+        Err(refusal) => u8::from(refusal),
     }
 }
 
@@ -53,4 +63,17 @@ pub fn large_side(width: u32, height: u32) -> bool
     ensures { result ≡ large_side width height }
 {
     MAX_SIDE < width || MAX_SIDE < height
+}
+
+// Refusals 1 and 2 of a picture's sides, in this order.
+pub fn check_sides(width: u32, height: u32) -> Result<(), Refusal>
+    ensures { number_of result ≡ sides_refusal width height }
+{
+    if zero_side(width, height) {
+        return Err(Refusal::ZeroSide);
+    }
+    if large_side(width, height) {
+        return Err(Refusal::LargeSide);
+    }
+    Ok(())
 }

@@ -1,23 +1,12 @@
 // The size class of a symbol: version v, from 1 to 64, has 17 + 4 v modules on a side.
 ghost use Rattle.std.specs.Prelude.{◌≡◌, ◌*◌};
-ghost use Rattle.lcr_core.specs.Version.{new_of, checked_number, version_refusal, side_of, of_side};
+ghost use Rattle.lcr_core.specs.Outcome.{number_of};
+ghost use Rattle.lcr_core.specs.Version.{new_of, version_refusal, side_of, of_side};
+
+use super::Refusal;
 
 #[derive(Clone, Copy)]
 pub struct Version(pub u8);
-
-// A version, or refusal 7.
-#[derive(Clone, Copy)]
-pub enum Checked {
-    Is(Version),
-    Refused,
-}
-
-// A version, or none.
-#[derive(Clone, Copy)]
-pub enum Found {
-    Is(Version),
-    Nothing,
-}
 
 impl Version {
     pub const MIN: Version = Version(1);
@@ -27,17 +16,17 @@ impl Version {
     pub const MAX_CLASSIC: Version = Version(32);
 
     // Version v, refused outside 1 to 64.
-    pub fn new(v: u8) -> Checked
+    pub fn new(v: u8) -> Result<Version, Refusal>
         ensures version { result ≡ new_of v }
-        ensures number { checked_number result ≡ version_refusal v }
+        ensures number { number_of result ≡ version_refusal v }
     {
         if v < Version::MIN.0 {
-            return Checked::Refused;
+            return Err(Refusal::BadVersion);
         }
         if Version::MAX.0 < v {
-            return Checked::Refused;
+            return Err(Refusal::BadVersion);
         }
-        Checked::Is(Version(v))
+        Ok(Version(v))
     }
 
     pub fn get(self) -> u8
@@ -62,20 +51,20 @@ impl Version {
     }
 
     // The version with so many modules on a side, or none.
-    pub fn from_side(side: u16) -> Found
+    pub fn from_side(side: u16) -> Option<Version>
         ensures { result ≡ of_side side }
     {
         if side < 21 {
-            return Found::Nothing;
+            return None;
         }
         if 273 < side {
-            return Found::Nothing;
+            return None;
         }
         let d = side - 17;
         if d % 4 == 0 {
-            Found::Is(Version((d / 4) as u8))
+            Some(Version((d / 4) as u8))
         } else {
-            Found::Nothing
+            None
         }
     }
 }

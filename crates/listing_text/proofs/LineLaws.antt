@@ -1,4 +1,5 @@
 -- Lines from their fields as they are written. Assumes nothing.
+use Rattle.std.specs.Prelude.{Option, Some, None}
 use mathlib.Core.Path.{◌≡◌, refl, sym, ap, ◌∙◌}
 use mathlib.Core.List.{List, [], ◌∷◌, ◌++◌, append-nil, append_assoc}
 use Prim.Native.Nat.{ℕ, ◌+◌, ◌≤◌, ◌<◌}
@@ -10,8 +11,6 @@ use Rattle.lists.specs.Lists.{tabulate, flat_map}
 use Rattle.lists.proofs.Folds.{flat_map-append, flat_map-take}
 use Rattle.transform.specs.declared.Point.{Point}
 use Rattle.geometry.specs.declared.Finder.{Finder}
-use Rattle.geometry.specs.declared.Marker.{Marker}
-use Rattle.geometry.specs.declared.Marker.TheVariants.{At, Missing}
 use Rattle.candidates.specs.declared.Detection.{Detection}
 use Rattle.listing_text.specs.Text.{space, line_feed, dash, decimal_text, single_text, line_text}
 use Rattle.listing_text.specs.Inner.{Wrote, with_space, spaced}
@@ -53,7 +52,7 @@ finder_wrote f i j k l r a b c d e p q s t =
     next x y (m ∷ n ∷ []) i j r a b e p w2
 
 -- ---- the marker
-pub marker_wrote : (m : Marker) (p : Point) (i j r : ℕ) (a b c : List ℕ) → m ≡ At p → Wrote (single_text p.x ++ (space ∷ [])) i a j b → Wrote (single_text p.y ++ (space ∷ [])) j b r c
+pub marker_wrote : (m : Option Point) (p : Point) (i j r : ℕ) (a b c : List ℕ) → m ≡ Some p → Wrote (single_text p.x ++ (space ∷ [])) i a j b → Wrote (single_text p.y ++ (space ∷ [])) j b r c
     → Wrote (spaced (marker_fields m)) i a r c
 unfolding spaced flat_map marker_fields
 marker_wrote m p i j r a b c e u v =
@@ -61,7 +60,7 @@ marker_wrote m p i j r a b c e u v =
     let y = with_space (single_text p.y) in
     rw e (wrote_then x (y ++ []) i j r a b c u (wrote_as y (y ++ []) j r b c (sym (append-nil y)) v))
 
-pub missing_wrote : (m : Marker) (i r : ℕ) (a b : List ℕ) → m ≡ Missing → Wrote (dash ++ (space ∷ [])) i a r b → Wrote (spaced (marker_fields m)) i a r b
+pub missing_wrote : (m : Option Point) (i r : ℕ) (a b : List ℕ) → m ≡ None → Wrote (dash ++ (space ∷ [])) i a r b → Wrote (spaced (marker_fields m)) i a r b
 unfolding spaced flat_map marker_fields
 missing_wrote m i r a b e u = rw e u
 

@@ -3,17 +3,15 @@
 -- chain on `Gray8` and prints `refused N`, or width, height, finder count, detection count; a line per finder (x, y, module as eight hexadecimal digits,
 -- confirmations in decimal); a line per detection (version, alignment x and y or `-`, eight transform numbers of sixteen hexadecimal digits)." Document 02,
 -- N8: "The listing's detection line ends with both", score and mean module, "eight hexadecimal digits each". Definitions only.
-use Rattle.std.specs.Prelude.{ℕ, ◌+◌, ◌*◌, cond, List, [], ◌∷◌, ◌++◌, ltb, length, take, drop, get_or, Float}
+use Rattle.std.specs.Prelude.{ℕ, ◌+◌, ◌*◌, cond, List, [], ◌∷◌, ◌++◌, ltb, length, take, drop, get_or, Float, Option, Some, None}
 use Rattle.std.specs.Float.{nan}
 use Rattle.lists.specs.Lists.{tabulate, flat_map}
 use Rattle.little_endian.specs.Bytes.{read_le}
-use Rattle.lcr_core.specs.Outcome.{first_of, unless, zero_side, large_side}
-use Rattle.lcr_core.specs.declared.Outcome.TheVariants.{ZeroSide, LargeSide, ShortPicture, ShortOutput}
+use Rattle.lcr_core.specs.Outcome.{Check, first_of, unless, zero_side, large_side}
+use Rattle.lcr_core.specs.declared.Refusal.TheVariants.{ZeroSide, LargeSide, ShortPicture, ShortOutput}
 use Rattle.image.specs.declared.PixelFormat.TheVariants.{Gray8}
 use Rattle.image.specs.Gray.{channels_of}
 use Rattle.geometry.specs.declared.Finder.{Finder}
-use Rattle.geometry.specs.declared.Marker.{Marker}
-use Rattle.geometry.specs.declared.Marker.TheVariants.{At, Missing}
 use Rattle.finders.specs.Search.{max_finders}
 use Rattle.finders.specs.Answer.{finders_of}
 use Rattle.candidates.specs.declared.Answer.{Answer}
@@ -22,6 +20,7 @@ use Rattle.candidates.specs.declared.Detections.{Detections}
 use Rattle.stages.specs.Pictures.{denoised_picture}
 use Rattle.chain.specs.Chain.{chain_of}
 use Rattle.listing_text.specs.Text.{decimal_text, single_text, double_text, dash, line_text}
+use Rattle.transform.specs.declared.Point.{Point}
 
 -- ---- the input
 -- its first two bytes
@@ -41,17 +40,20 @@ abbrev pub max_pixels : ℕ
 max_pixels = 40000
 
 -- 4, 1, 2, 5 and 4, in this order
-unfoldable pub listing_refusal : List ℕ → ℕ
-listing_refusal input =
+abbrev pub listing_checks : List ℕ → List Check
+listing_checks input =
     let w = width_of input in
     let h = height_of input in
-    first_of
-    (record { refuses = ltb (length input) 4; outcome = ShortPicture }
-    ∷ record { refuses = zero_side w h; outcome = ZeroSide }
-    ∷ record { refuses = large_side w h; outcome = LargeSide }
-    ∷ record { refuses = ltb max_pixels (w * h); outcome = ShortOutput }
-    ∷ record { refuses = ltb (length (picture_of input)) (w * h); outcome = ShortPicture }
-    ∷ [])
+    record { refuses = ltb (length input) 4; refusal = ShortPicture }
+    ∷ record { refuses = zero_side w h; refusal = ZeroSide }
+    ∷ record { refuses = large_side w h; refusal = LargeSide }
+    ∷ record { refuses = ltb max_pixels (w * h); refusal = ShortOutput }
+    ∷ record { refuses = ltb (length (picture_of input)) (w * h); refusal = ShortPicture }
+    ∷ []
+
+-- the number of the first that refuses
+unfoldable pub listing_refusal : List ℕ → ℕ
+listing_refusal input = first_of (listing_checks input)
 
 -- ---- lines
 -- `refused`
@@ -71,9 +73,9 @@ unfoldable pub finder_line : Finder → List ℕ
 finder_line f = line_text (single_text f.x ∷ single_text f.y ∷ single_text f.«module» ∷ decimal_text f.confirmations ∷ [])
 
 -- the alignment marker: x and y, or `-`
-unfoldable pub marker_fields : Marker → List (List ℕ)
-marker_fields (At p) = single_text p.x ∷ single_text p.y ∷ []
-marker_fields Missing = dash ∷ []
+unfoldable pub marker_fields : Option Point → List (List ℕ)
+marker_fields (Some p) = single_text p.x ∷ single_text p.y ∷ []
+marker_fields None = dash ∷ []
 
 -- the eight transform numbers; document 02, N12: "The listing prints the eight numbers only", no lens terms
 unfoldable pub number_fields : List Float → List (List ℕ)

@@ -8,7 +8,7 @@ ghost use Rattle.listing_text.specs.Listing.{chain_text, listing_refusal, listin
 
 use candidates::eight_in;
 use finders::MAX_FINDERS;
-use lcr_core::{Outcome, number};
+use lcr_core::{Refusal, check_sides, number};
 use lines::{put_list, put_refusal};
 
 mod lines;
@@ -24,28 +24,23 @@ fn area(width: u32, height: u32) -> u64
 }
 
 // The input's refusals, in document 01's order.
-fn check_input(input: &[u8]) -> Outcome
+fn check_input(input: &[u8]) -> Result<(), Refusal>
     ensures { number_of result ≡ listing_refusal input.now }
 {
     if input.len() < 4 {
-        return Outcome::ShortPicture;
+        return Err(Refusal::ShortPicture);
     }
     let width = little_endian::get16(input, 0) as u32;
     let height = little_endian::get16(input, 2) as u32;
-    if lcr_core::zero_side(width, height) {
-        return Outcome::ZeroSide;
-    }
-    if lcr_core::large_side(width, height) {
-        return Outcome::LargeSide;
-    }
+    check_sides(width, height)?;
     let pixels = area(width, height);
     if 40000 < pixels {
-        return Outcome::ShortOutput;
+        return Err(Refusal::ShortOutput);
     }
     if ((input.len() - 4) as u64) < pixels {
-        return Outcome::ShortPicture;
+        return Err(Refusal::ShortPicture);
     }
-    Outcome::Done
+    Ok(())
 }
 
 // The text of a picture whose denoised bits these are, at the front.
@@ -78,7 +73,7 @@ fn put_picture(picture: &[u8], width: u32, height: u32, text: &mut [u8]) -> u32
     let mut greatest = [0u8; 1600];
     let mut edges = [0u8; 1600];
     let mut nears = [0u8; 1600];
-    stages::stages(
+    let _ = stages::stages(
         picture,
         width,
         height,

@@ -10,7 +10,8 @@ ghost use Rattle.listing_text.specs.Listing.{refused_line, head_line, finder_lin
 use crate::pieces::{put_decimal, put_double, put_field, put_single};
 use candidates::{Detection, Detections};
 use finders::{Finders, MAX_FINDERS};
-use geometry::{Finder, Marker};
+use geometry::Finder;
+use transform::Point;
 
 const SPACE: u8 = 32;
 
@@ -48,17 +49,17 @@ fn put_finder(text: &mut [u8], at: u32, f: Finder) -> u32
     put_decimal(text, c, f.confirmations as u64, LINE_FEED)
 }
 
-fn put_marker(text: &mut [u8], at: u32, m: Marker) -> u32
+fn put_marker(text: &mut [u8], at: u32, m: Option<Point>) -> u32
     requires { at < 2 ^ 30 }
     ensures text { Wrote (spaced (marker_fields m)) at text.old result text.new }
     ensures most { result ≤ at + 2 * single_room }
 {
     match m {
-        Marker::At(p) => {
+        Some(p) => {
             let a = put_single(text, at, p.x, SPACE);
             put_single(text, a, p.y, SPACE)
         }
-        Marker::Missing => {
+        None => {
             let none = [45];
             put_field(text, at, &none, SPACE)
         }

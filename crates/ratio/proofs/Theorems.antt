@@ -1,4 +1,5 @@
 -- Up to the longest side the f32 test of document 000 gives the same yes or no as the whole numbers, and so the same match. Assumes nothing.
+use Rattle.std.specs.Prelude.{Some, None}
 use mathlib.Core.Path.{◌≡◌, refl, sym, ap, ◌∙◌}
 use mathlib.Core.Bool.{Bool, true, false, not, cond, and-false}
 use Prim.Native.Nat.{ℕ, zero, suc, ◌+◌, ◌*◌, ◌≤◌, ◌<◌}
@@ -12,7 +13,6 @@ use Rattle.float.proofs.Order.{lt_asym, eq_not_lt}
 use Rattle.float.proofs.Exactly.{lt_is}
 use Rattle.lcr_core.specs.Outcome.{max_side}
 use Rattle.ratio.specs.Ratio.{passes, module_of, match_of, outer_of, float_passes}
-use Rattle.ratio.specs.declared.Match.TheVariants.{Module, Nothing}
 use Rattle.ratio.proofs.Tolerance.{outer_is, one_test, three_test}
 
 -- ---- the mean is above 0 if an outer run has a pixel
@@ -55,6 +55,6 @@ float_agrees a b c d e l = go (ltb 0 (a + b + d + e)) refl
         f ∙ sym p
 
 -- so `matches_finder` answers as document 000's function of that name
-pub float_match : (a b c d e : ℕ) → a + b + c + d + e ≤ max_side → match_of a b c d e ≡ cond (float_passes a b c d e) (Module (module_of (a + b + c + d + e))) Nothing
+pub float_match : (a b c d e : ℕ) → a + b + c + d + e ≤ max_side → match_of a b c d e ≡ cond (float_passes a b c d e) (Some (module_of (a + b + c + d + e))) None
 unfolding match_of
 float_match a b c d e l = rw (le-leb (a + b + c + d + e) max_side l, float_agrees a b c d e l)

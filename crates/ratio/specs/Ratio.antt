@@ -1,13 +1,11 @@
 -- When five runs are a finder's, and the module that they give (document 01, "Finding and ranking", first paragraph; document 02, N5). Definitions only.
-use Rattle.std.specs.Prelude.{ℕ, ◌+◌, ◌*◌, Bool, ◌&&◌, cond, not, leb, ltb, Float}
+use Rattle.std.specs.Prelude.{ℕ, ◌+◌, ◌*◌, Bool, ◌&&◌, cond, not, leb, ltb, Float, Option, Some, None}
 use Rattle.std.specs.Float.Ieee.{lt, le}
 use Rattle.lists.specs.Lists.{dist}
 use Rattle.float.specs.Floats.{abs_of}
 use Rattle.float.specs.Steps.{minus32, times32, over32, whole32}
 use Rattle.float.specs.Constants.{f0, f0_55, f3, f4, f7}
 use Rattle.lcr_core.specs.Outcome.{max_side}
-use Rattle.ratio.specs.declared.Match.{Match}
-use Rattle.ratio.specs.declared.Match.TheVariants.{Module, Nothing}
 
 -- an outer run r is near one module: 20 × |4r - S| ≤ 11 × S
 abbrev pub near_one : ℕ → ℕ → Bool
@@ -28,10 +26,10 @@ abbrev pub module_of : ℕ → Float
 module_of total = over32 (whole32 total) f7
 
 -- `matches_finder`: nothing also for a total over the longest side, up to which the f32 test is proved to be this one
-unfoldable pub match_of : ℕ → ℕ → ℕ → ℕ → ℕ → Match
+unfoldable pub match_of : ℕ → ℕ → ℕ → ℕ → ℕ → Option Float
 match_of a b c d e =
     let total = a + b + c + d + e in
-    cond (leb total max_side && passes a b c d e) (Module (module_of total)) Nothing
+    cond (leb total max_side && passes a b c d e) (Some (module_of total)) None
 
 -- ---- the f32 test of document 000, step by step: no code takes it, and up to the longest side it says the same (proofs/Theorems.antt)
 -- outer: the mean of the four outer runs, whose sum is s

@@ -4,13 +4,6 @@
 ghost use Rattle.std.specs.Prelude.{◌≡◌, ◌*◌, ◌≤◌};
 ghost use Rattle.ratio.specs.Ratio.{near_one, near_three, passes, match_of};
 
-// The module of five runs that pass.
-#[derive(Clone, Copy)]
-pub enum Match {
-    Module(f32),
-    Nothing,
-}
-
 // Whether the outer run r is near one module, where the four outer runs have the sum s: 20 × |4r - s| ≤ 11 × s without the distance.
 fn near_one(r: u16, s: u32) -> bool
     requires { s ≤ 4 * 65535 }
@@ -45,15 +38,15 @@ pub fn passes_finder(a: u16, b: u16, c: u16, d: u16, e: u16) -> bool
 }
 
 // The module of the runs a, b, c, d and e where they pass; nothing for a total over the longest side.
-pub fn matches_finder(a: u16, b: u16, c: u16, d: u16, e: u16) -> Match
+pub fn matches_finder(a: u16, b: u16, c: u16, d: u16, e: u16) -> Option<f32>
     ensures { result ≡ match_of a b c d e }
 {
     if !passes_finder(a, b, c, d, e) {
-        return Match::Nothing;
+        return None;
     }
     let total = a as u32 + b as u32 + c as u32 + d as u32 + e as u32;
     if lcr_core::MAX_SIDE < total {
-        return Match::Nothing;
+        return None;
     }
-    Match::Module(total as f32 / 7.0)
+    Some(total as f32 / 7.0)
 }

@@ -1,11 +1,11 @@
 // Records 1 to 8: versions and colours.
 use lcr_core::color::Srgb8;
-use lcr_core::version::{Checked, Found, Version};
+use lcr_core::version::Version;
 use record::values;
 
 fn version(function: u8, p: &[u8], out: &mut [u8]) -> usize {
     match Version::new(little_endian::get8(p, 0)) {
-        Checked::Is(v) => {
+        Ok(v) => {
             if function == 1 {
                 little_endian::put8(out, 1, v.get());
                 return 2;
@@ -17,7 +17,7 @@ fn version(function: u8, p: &[u8], out: &mut [u8]) -> usize {
             little_endian::put32(out, 1, (v.modules() % 4294967296) as u32);
             5
         }
-        Checked::Refused => {
+        Err(_) => {
             little_endian::put8(out, 0, 7);
             if function == 1 {
                 return 2;
@@ -32,11 +32,11 @@ fn version(function: u8, p: &[u8], out: &mut [u8]) -> usize {
 
 fn from_side(p: &[u8], out: &mut [u8]) -> usize {
     match Version::from_side(little_endian::get16(p, 0)) {
-        Found::Is(v) => {
+        Some(v) => {
             little_endian::put8(out, 0, 1);
             little_endian::put8(out, 1, v.get());
         }
-        Found::Nothing => {}
+        None => {}
     }
     2
 }

@@ -1,7 +1,6 @@
 // Records 32 to 34, 36 and 37: the finder search, the stored list, the five-run test and how a run ended.
 use binary::line;
 use binary::line::{End, Run};
-use ratio::Match;
 use record::{slices, values};
 
 fn find_finders(p: &[u8], out: &mut [u8]) -> usize {
@@ -48,11 +47,11 @@ fn matches_finder(p: &[u8], out: &mut [u8]) -> usize {
         little_endian::get16(p, 6),
         little_endian::get16(p, 8),
     ) {
-        Match::Module(module) => {
+        Some(module) => {
             little_endian::put8(out, 0, 1);
             values::put_float(out, 1, module);
         }
-        Match::Nothing => {}
+        None => {}
     }
     5
 }

@@ -1,8 +1,7 @@
 // Records 48 to 59: linear equations, transforms, and what three finders tell.
-use geometry::Marker;
-use lcr_core::version::{Found, Version};
+use lcr_core::version::Version;
 use record::values;
-use transform::{Quad, Transform, Triangle};
+use transform::{Point, Quad, Transform, Triangle};
 
 fn solve6(p: &[u8], out: &mut [u8]) -> usize {
     let s = math::solve6(values::doubles_at(p, 0), values::doubles_at(p, 288));
@@ -106,20 +105,20 @@ fn order_finders(p: &[u8], out: &mut [u8]) -> usize {
 
 fn estimate_version(p: &[u8], out: &mut [u8]) -> usize {
     match geometry::estimate_version(values::corners_at(p, 0)) {
-        Found::Is(v) => {
+        Some(v) => {
             little_endian::put8(out, 0, 1);
             little_endian::put8(out, 1, v.get());
         }
-        Found::Nothing => {}
+        None => {}
     }
     2
 }
 
-fn marker_at(p: &[u8], at: u16) -> Marker {
+fn marker_at(p: &[u8], at: u16) -> Option<Point> {
     if little_endian::get8(p, at as u32) == 0 {
-        return Marker::Missing;
+        return None;
     }
-    Marker::At(values::point_at(p, at % 32768 + 1))
+    Some(values::point_at(p, at % 32768 + 1))
 }
 
 fn build_transform(p: &[u8], out: &mut [u8]) -> usize {

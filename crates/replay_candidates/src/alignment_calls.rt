@@ -1,17 +1,17 @@
 // Records 64 to 67: the alignment marker.
-use geometry::Marker;
 use lcr_core::version::Version;
 use record::{slices, values};
 use rows::Located;
+use transform::Point;
 
 // A flag, and where the marker is.
-fn put_marker(out: &mut [u8], at: u8, m: Marker) {
+fn put_marker(out: &mut [u8], at: u8, m: Option<Point>) {
     match m {
-        Marker::At(q) => {
+        Some(q) => {
             little_endian::put8(out, at as u32, 1);
             values::put_point(out, at as u16 + 1, q);
         }
-        Marker::Missing => {}
+        None => {}
     }
 }
 

@@ -1,6 +1,6 @@
 -- The search for the alignment marker along rows. Document 01: "`find_alignment` searches the rows as 000 does", refusals "1, 2, 4", and its known difference: "sums are taken
 -- without overflow, and rows clipped to the picture; a negative px + radius still searches to width − 1". All steps are f32, in the order of 000. Definitions only.
-use Rattle.std.specs.Prelude.{ℕ, suc, ◌+◌, ◌-◌, min, Bool, true, false, not, ◌&&◌, cond, List, ltb, ℤ, pos, negsuc, length, Float}
+use Rattle.std.specs.Prelude.{ℕ, suc, ◌+◌, ◌-◌, min, Bool, true, false, not, ◌&&◌, cond, List, ltb, ℤ, pos, negsuc, length, Float, Option, Some, None}
 use Rattle.std.specs.Float.Ieee.{lt, le, to_unsigned, to_signed}
 use Rattle.lists.specs.Lists.{range, folded}
 use Rattle.float.specs.Floats.{abs_of, max_of}
@@ -13,8 +13,6 @@ use Rattle.binary.specs.Refusal.{bits_refusal}
 use Rattle.transform.specs.Apply.{distance2_of}
 use Rattle.transform.specs.declared.Point.{Point}
 use Rattle.geometry.specs.Order.{point}
-use Rattle.geometry.specs.declared.Marker.{Marker}
-use Rattle.geometry.specs.declared.Marker.TheVariants.{At, Missing}
 use Rattle.rows.specs.declared.Located.{Located}
 use Rattle.rows.specs.declared.window.Window.{Window}
 use Rattle.rows.specs.declared.search.Runs.{Runs}
@@ -82,12 +80,12 @@ unfoldable pub limit_of : Float → ℕ
 limit_of m = to_unsigned 32 (times32 m f3) + 3
 
 -- the marker with its centre at x across and in the middle of the column's dark run down, where the column's runs match
-abbrev pub marker_at : Float → Float → Runs → Marker
-marker_at m x r = cond (matches_of m r) (At (point x (middle_of r))) Missing
+abbrev pub marker_at : Float → Float → Runs → Option Point
+marker_at m x r = cond (matches_of m r) (Some (point x (middle_of r))) None
 
 -- the column is that of the pixel which x lies in, and the dark run the one about its row y
-unfoldable pub confirm_of : List ℕ → ℕ → ℕ → Float → ℕ → Float → Marker
-confirm_of bits w h m y x = let i = to_unsigned 32 x in cond (dark_at bits w h i y) (marker_at m x (column_runs (column bits w i) h y (limit_of m))) Missing
+unfoldable pub confirm_of : List ℕ → ℕ → ℕ → Float → ℕ → Float → Option Point
+confirm_of bits w h m y x = let i = to_unsigned 32 x in cond (dark_at bits w h i y) (marker_at m x (column_runs (column bits w i) h y (limit_of m))) None
 
 -- ---- along a row
 
@@ -102,37 +100,37 @@ row_runs f first end x =
     record { before = run_back false f x (x - first); dark = d; after = run false f (x + d) (end - (x + d)); start = x }
 
 -- the marker whose runs along row y are r
-unfoldable pub confirmed : List ℕ → ℕ → ℕ → Float → ℕ → Runs → Marker
-confirmed bits w h m y r = cond (matches_of m r) (confirm_of bits w h m y (middle_of r)) Missing
+unfoldable pub confirmed : List ℕ → ℕ → ℕ → Float → ℕ → Runs → Option Point
+confirmed bits w h m y r = cond (matches_of m r) (confirm_of bits w h m y (middle_of r)) None
 
 -- the marker whose dark run starts at pixel x of row y
-unfoldable pub seen_of : List ℕ → ℕ → ℕ → ℕ → ℕ → Float → ℕ → ℕ → Marker
-seen_of bits w h first end m y x = cond (starts_at (row bits w y) x) (confirmed bits w h m y (row_runs (row bits w y) first end x)) Missing
+unfoldable pub seen_of : List ℕ → ℕ → ℕ → ℕ → ℕ → Float → ℕ → ℕ → Option Point
+seen_of bits w h first end m y x = cond (starts_at (row bits w y) x) (confirmed bits w h m y (row_runs (row bits w y) first end x)) None
 
 -- ---- the nearest
 
 -- the nearer to p by the squared distance; the earlier one where the later is not nearer
-unfoldable pub nearer_of : Point → Marker → Marker → Marker
-nearer_of p best Missing = best
-nearer_of p Missing (At s) = At s
-nearer_of p (At b) (At s) = cond (lt (distance2_of s p) (distance2_of b p)) (At s) (At b)
+unfoldable pub nearer_of : Point → Option Point → Option Point → Option Point
+nearer_of p best None = best
+nearer_of p None (Some s) = Some s
+nearer_of p (Some b) (Some s) = cond (lt (distance2_of s p) (distance2_of b p)) (Some s) (Some b)
 
 module _ (bits : List ℕ) (w h first end : ℕ) (p : Point) (m : Float) where
   -- the nearer of the nearest so far and the marker at pixel x of row y
-  abbrev pub visit : ℕ → Marker → ℕ → Marker
+  abbrev pub visit : ℕ → Option Point → ℕ → Option Point
   visit y best x = nearer_of p best (seen_of bits w h first end m y x)
 
   -- along row y, the columns strictly between first and end
-  unfoldable pub row_nearest : Marker → ℕ → Marker
+  unfoldable pub row_nearest : Option Point → ℕ → Option Point
   row_nearest best y = folded (visit y) best (range (first + 1) end)
 
 -- row by row
-unfoldable pub nearest_of : List ℕ → ℕ → ℕ → Window → Point → Float → Marker
-nearest_of bits w h v p m = folded (row_nearest bits w h v.first v.end p m) Missing (range v.top v.bottom)
+unfoldable pub nearest_of : List ℕ → ℕ → ℕ → Window → Point → Float → Option Point
+nearest_of bits w h v p m = folded (row_nearest bits w h v.first v.end p m) None (range v.top v.bottom)
 
 -- a marker, unless a number other than 0 refuses
-abbrev pub answer : ℕ → Marker → Located
-answer n m = record { refusal = n; marker = unless n Missing m }
+abbrev pub answer : ℕ → Option Point → Located
+answer n m = record { refusal = n; marker = unless n None m }
 
 -- `find_alignment`
 unfoldable pub find_of : List ℕ → ℕ → ℕ → Point → Float → Located

@@ -5,7 +5,6 @@ ghost use Rattle.std.specs.Prelude.{◌≡◌};
 ghost use Rattle.rows.specs.Rows.{find_of};
 
 use binary::refusal::check_bits;
-use geometry::Marker;
 use search::Search;
 use transform::Point;
 use window::window_about;
@@ -17,7 +16,7 @@ mod window;
 #[derive(Clone, Copy)]
 pub struct Located {
     pub refusal: u8,
-    pub marker: Marker,
+    pub marker: Option<Point>,
 }
 
 // The marker by runs along rows, nearest to the predicted place.
@@ -34,7 +33,7 @@ pub fn find_alignment(
     if refusal != 0 {
         return Located {
             refusal,
-            marker: Marker::Missing,
+            marker: None,
         };
     }
     let search = Search {

@@ -7,7 +7,6 @@ use crate::window::{Window, least};
 use binary::dark;
 use binary::line::{run_back, run_on};
 use float::{abs32, to_u32};
-use geometry::Marker;
 use transform::{Point, distance2};
 
 // A light, a dark and a light run, and the pixel at which the dark one starts.
@@ -49,21 +48,21 @@ fn limit_of(module: f32) -> u64
 }
 
 // The nearer to p of the nearest so far and what is seen; the earlier one where neither is nearer.
-fn nearer(p: Point, best: Marker, seen: Marker) -> Marker
+fn nearer(p: Point, best: Option<Point>, seen: Option<Point>) -> Option<Point>
     ensures { result ≡ nearer_of p best seen }
 {
     match seen {
-        Marker::At(s) => match best {
-            Marker::At(b) => {
+        Some(s) => match best {
+            Some(b) => {
                 if distance2(s, p) < distance2(b, p) {
                     seen
                 } else {
                     best
                 }
             }
-            Marker::Missing => seen,
+            None => seen,
         },
-        Marker::Missing => best,
+        None => best,
     }
 }
 
@@ -105,7 +104,7 @@ impl<'a> Search<'a> {
     }
 
     // The marker with its centre at cx, confirmed down the column from row y.
-    fn confirm_alignment_vertical(&self, cx: f32, y: u16) -> Marker
+    fn confirm_alignment_vertical(&self, cx: f32, y: u16) -> Option<Point>
         requires { y < self.now.height }
         ensures { let s = self.now in result ≡ confirm_of s.bits.now s.width s.height s.«module» y cx }
     {
@@ -113,24 +112,24 @@ impl<'a> Search<'a> {
         if dark(self.bits, self.width, self.height, x, y as u32) {
             let r = self.column_runs(x, y);
             if r.matches_alignment(self.module) {
-                return Marker::At(Point {
+                return Some(Point {
                     x: cx,
                     y: r.middle(),
                 });
             }
         }
-        Marker::Missing
+        None
     }
 
     // The marker whose runs along row y are r.
-    fn shown(&self, y: u16, r: Runs) -> Marker
+    fn shown(&self, y: u16, r: Runs) -> Option<Point>
         requires { y < self.now.height }
         ensures { let s = self.now in result ≡ confirmed s.bits.now s.width s.height s.«module» y r }
     {
         if r.matches_alignment(self.module) {
             return self.confirm_alignment_vertical(r.middle(), y);
         }
-        Marker::Missing
+        None
     }
 
     // The dark run that starts at pixel x of a row, and the light runs before it, which is known, and after it, within the window's columns.
@@ -152,7 +151,7 @@ impl<'a> Search<'a> {
     }
 
     // Row y, from dark run to dark run.
-    fn search_row(&self, best: Marker, y: u16) -> Marker
+    fn search_row(&self, best: Option<Point>, y: u16) -> Option<Point>
         requires { y < self.now.height }
         ensures { let s = self.now in result ≡ row_nearest s.bits.now s.width s.height s.window.first s.window.end s.predicted s.«module» best y }
     {
@@ -177,10 +176,10 @@ impl<'a> Search<'a> {
     }
 
     // The marker nearest to the predicted place in the window.
-    pub fn nearest_marker(&self) -> Marker
+    pub fn nearest_marker(&self) -> Option<Point>
         ensures { let s = self.now in result ≡ nearest_of s.bits.now s.width s.height s.window s.predicted s.«module» }
     {
-        let mut nearest = Marker::Missing;
+        let mut nearest = None;
         for y in self.window.top..self.window.bottom {
             nearest = self.search_row(nearest, y);
         }

@@ -2,8 +2,8 @@
 -- it holds. Document 01, "From picture to bits". Definitions only.
 use Rattle.std.specs.Prelude.{ℕ, ◌*◌, cond, ◌||◌, List, eqb}
 use Rattle.lists.specs.Lists.{tabulate, written}
-use Rattle.lcr_core.specs.Outcome.{number_of}
-use Rattle.lcr_core.specs.declared.Outcome.TheVariants.{Done, FullTable}
+use Rattle.lcr_core.specs.Outcome.{refusal_number}
+use Rattle.lcr_core.specs.declared.Refusal.TheVariants.{FullTable}
 use Rattle.binary.specs.Binary.{byte_of, bytes_of}
 use Rattle.image.specs.Gray.{gray_at}
 use Rattle.image.specs.Denoise.{denoised_at}
@@ -43,7 +43,7 @@ module _ (p : List ℕ) (w h s f : ℕ) where
 
 -- after 0, and after 6, which is given behind the stages, a list is written; else all is as it was
 unfoldable pub left_after : ℕ → List ℕ → List ℕ → List ℕ
-left_after n new old = cond (eqb n (number_of Done) || eqb n (number_of FullTable)) (written new old) old
+left_after n new old = cond (eqb n (0) || eqb n (refusal_number FullTable)) (written new old) old
 
 -- each slice, where p is the picture and n the number answered
 module _ (n : ℕ) (p : List ℕ) (w h s f : ℕ) where

@@ -6,7 +6,7 @@ ghost use Rattle.lcr_core.specs.Outcome.{number_of};
 ghost use Rattle.stages.specs.Stages.{stages_refusal, refusal_of};
 ghost use Rattle.stages.specs.Pictures.{gray_after, bits_after, denoised_after, means_after, least_after, greatest_after, edges_after, nears_after};
 
-use lcr_core::Outcome;
+use lcr_core::Refusal;
 
 // What `stages` answers for `len` picture bytes and lent slices of these lengths.
 pub fn check_stages(
@@ -23,19 +23,13 @@ pub fn check_stages(
     greatest: usize,
     edges: usize,
     nears: usize,
-) -> Outcome
+) -> Result<(), Refusal>
     ensures { number_of result ≡ stages_refusal len width height stride format gray bits denoised (means ∷ least ∷ greatest ∷ edges ∷ nears ∷ []) }
 {
-    let first = image::gray::check_gray(len, width, height, stride, format, gray);
-    if lcr_core::number(first) != 0 {
-        return first;
-    }
-    let second = binarize::check_binarize(
+    image::gray::check_gray(len, width, height, stride, format, gray)?;
+    binarize::check_binarize(
         gray, width, height, bits, means, least, greatest, edges, nears,
-    );
-    if lcr_core::number(second) != 0 {
-        return second;
-    }
+    )?;
     image::denoise::check_denoised(bits, width, height, denoised)
 }
 
@@ -66,11 +60,11 @@ fn run_checked(
     ensures edges { edges.new ≡ edges_after 0 picture.now width height stride format edges.old }
     ensures nears { nears.new ≡ nears_after 0 picture.now width height stride format nears.old }
 {
-    image::gray::gray_buffer(picture, width, height, stride, format, gray);
-    binarize::binarize(
+    let _ = image::gray::gray_buffer(picture, width, height, stride, format, gray);
+    let _ = binarize::binarize(
         gray, width, height, means, least, greatest, edges, nears, bits,
     );
-    image::denoise::denoised(bits, width, height, denoised);
+    let _ = image::denoise::denoised(bits, width, height, denoised);
 }
 
 // Gray conversion of a picture, black and white conversion of the gray picture and denoising of its bits, with a byte for each block in each of the five
@@ -89,7 +83,7 @@ pub fn stages(
     greatest: &mut [u8],
     edges: &mut [u8],
     nears: &mut [u8],
-) -> Outcome
+) -> Result<(), Refusal>
     ensures refusal { number_of result ≡ refusal_of picture.now width height stride format gray.old bits.old denoised.old
         (means.old ∷ least.old ∷ greatest.old ∷ edges.old ∷ nears.old ∷ []) }
     ensures gray { gray.new ≡ gray_after (number_of result) picture.now width height stride format gray.old }
@@ -101,7 +95,7 @@ pub fn stages(
     ensures edges { edges.new ≡ edges_after (number_of result) picture.now width height stride format edges.old }
     ensures nears { nears.new ≡ nears_after (number_of result) picture.now width height stride format nears.old }
 {
-    let checked = check_stages(
+    check_stages(
         picture.len(),
         width,
         height,
@@ -115,13 +109,10 @@ pub fn stages(
         greatest.len(),
         edges.len(),
         nears.len(),
-    );
-    if lcr_core::number(checked) != 0 {
-        return checked;
-    }
+    )?;
     run_checked(
         picture, width, height, stride, format, gray, bits, denoised, means, least, greatest,
         edges, nears,
     );
-    Outcome::Done
+    Ok(())
 }

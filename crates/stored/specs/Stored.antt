@@ -4,7 +4,7 @@ use Rattle.std.specs.Float.{binary32}
 use Rattle.std.specs.Float.Ieee.{to_bits, of_bits}
 use Rattle.lists.specs.Lists.{tabulate, flat_map}
 use Rattle.lcr_core.specs.Outcome.{Check, first_of, unless, zero_side, large_side}
-use Rattle.lcr_core.specs.declared.Outcome.TheVariants.{ZeroSide, LargeSide, ShortOutput, BadList}
+use Rattle.lcr_core.specs.declared.Refusal.TheVariants.{ZeroSide, LargeSide, ShortOutput, BadList}
 use Rattle.little_endian.specs.Bytes.{bytes_le, read_le}
 use Rattle.geometry.specs.declared.Finder.{Finder}
 use Rattle.finders.specs.declared.Finders.{Finders}
@@ -67,14 +67,17 @@ unfoldable pub bad_length : ℕ → ℕ → Bool
 bad_length len count = many_finders count || not (eqb len (size_of count))
 
 -- 8, 1, 2, 8
+abbrev pub read_checks : List ℕ → List Check
+read_checks bytes =
+    record { refuses = bad_head bytes; refusal = BadList }
+    ∷ record { refuses = zero_side (width_in bytes) (height_in bytes); refusal = ZeroSide }
+    ∷ record { refuses = large_side (width_in bytes) (height_in bytes); refusal = LargeSide }
+    ∷ record { refuses = bad_length (length bytes) (count_in bytes); refusal = BadList }
+    ∷ []
+
+-- the number of the first that refuses
 unfoldable pub read_refusal : List ℕ → ℕ
-read_refusal bytes =
-    first_of
-    (record { refuses = bad_head bytes; outcome = BadList }
-    ∷ record { refuses = zero_side (width_in bytes) (height_in bytes); outcome = ZeroSide }
-    ∷ record { refuses = large_side (width_in bytes) (height_in bytes); outcome = LargeSide }
-    ∷ record { refuses = bad_length (length bytes) (count_in bytes); outcome = BadList }
-    ∷ [])
+read_refusal bytes = first_of (read_checks bytes)
 
 -- `read_list`: what the list holds, or a refusal's number and zeros
 unfoldable pub read_of : List ℕ → Stored
@@ -95,10 +98,10 @@ short_output len count = ltb len (size_of count)
 -- 1, 2, 8, 5, for so many finders and len bytes of output
 abbrev pub write_checks : ℕ → ℕ → ℕ → ℕ → List Check
 write_checks count width height len =
-    record { refuses = zero_side width height; outcome = ZeroSide }
-    ∷ record { refuses = large_side width height; outcome = LargeSide }
-    ∷ record { refuses = many_finders count; outcome = BadList }
-    ∷ record { refuses = short_output len count; outcome = ShortOutput }
+    record { refuses = zero_side width height; refusal = ZeroSide }
+    ∷ record { refuses = large_side width height; refusal = LargeSide }
+    ∷ record { refuses = many_finders count; refusal = BadList }
+    ∷ record { refuses = short_output len count; refusal = ShortOutput }
     ∷ []
 
 -- the refusal of a table's finders

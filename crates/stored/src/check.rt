@@ -4,7 +4,7 @@ ghost use Rattle.lcr_core.specs.Outcome.{number_of, first_of};
 ghost use Rattle.finders.specs.Search.{max_finders};
 ghost use Rattle.stored.specs.Stored.{bad_head, bad_length, many_finders, short_output, read_refusal, write_checks};
 
-use lcr_core::Outcome;
+use lcr_core::{Refusal, check_sides};
 
 // Whether there is no head of the form 1.
 fn bad_head(bytes: &[u8]) -> bool
@@ -39,40 +39,30 @@ fn short_output(len: usize, count: usize) -> bool
     len < 6 + 16 * count
 }
 
-pub fn check_read(bytes: &[u8]) -> Outcome
+pub fn check_read(bytes: &[u8]) -> Result<(), Refusal>
     ensures { number_of result ≡ read_refusal bytes.now }
 {
     if bad_head(bytes) {
-        return Outcome::BadList;
+        return Err(Refusal::BadList);
     }
     let width = little_endian::get16(bytes, 1);
     let height = little_endian::get16(bytes, 3);
-    if lcr_core::zero_side(width as u32, height as u32) {
-        return Outcome::ZeroSide;
-    }
-    if lcr_core::large_side(width as u32, height as u32) {
-        return Outcome::LargeSide;
-    }
+    check_sides(width as u32, height as u32)?;
     if bad_length(bytes.len(), little_endian::get8(bytes, 5)) {
-        return Outcome::BadList;
+        return Err(Refusal::BadList);
     }
-    Outcome::Done
+    Ok(())
 }
 
-pub fn check_write(count: usize, width: u32, height: u32, len: usize) -> Outcome
+pub fn check_write(count: usize, width: u32, height: u32, len: usize) -> Result<(), Refusal>
     ensures { number_of result ≡ first_of (write_checks count width height len) }
 {
-    if lcr_core::zero_side(width, height) {
-        return Outcome::ZeroSide;
-    }
-    if lcr_core::large_side(width, height) {
-        return Outcome::LargeSide;
-    }
+    check_sides(width, height)?;
     if many_finders(count) {
-        return Outcome::BadList;
+        return Err(Refusal::BadList);
     }
     if short_output(len, count) {
-        return Outcome::ShortOutput;
+        return Err(Refusal::ShortOutput);
     }
-    Outcome::Done
+    Ok(())
 }

@@ -2,7 +2,6 @@
 #![tactic(auto)]
 
 use geometry::{Corners, Finder};
-use lcr_core::version::Found;
 
 // The edge mark of a block of 8 × 8 pixels of gray 100, but for one of gray `other`.
 fn edge_mark(other: u8) -> u8 {
@@ -13,7 +12,7 @@ fn edge_mark(other: u8) -> u8 {
     let mut greatest = [0u8; 1];
     let mut edges = [7u8; 1];
     let mut nears = [0u8; 1];
-    blocks::block_values(
+    let _ = blocks::block_values(
         &gray,
         8,
         8,
@@ -54,11 +53,11 @@ fn print_side(apart: f32, side: u64) {
         bl: finder(0.0, apart),
     };
     match geometry::estimate_version(c) {
-        Found::Is(v) => {
+        Some(v) => {
             io::write_all(1, b": version ");
             io::print_decimal(1, v.get() as u64);
         }
-        Found::Nothing => {
+        None => {
             io::write_all(1, b": none");
         }
     }

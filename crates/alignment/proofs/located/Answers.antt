@@ -7,10 +7,10 @@ pub returns-then-version-lt2 : goal.returns-then-version-lt2
 unfolding located_of
 returns-then-version-lt2 c = rw (lt-ltb _ _ c.if-version-lt2.true)
 
-pub returns-in-At : goal.returns-in-At
+pub returns-in-Some : goal.returns-in-Some
 unfolding located_of
-returns-in-At c = rw (le-ltb _ _ c.if-version-lt2.false, ← c.matched.ensures, c.in-At.is)
+returns-in-Some c = rw (le-ltb _ _ c.if-version-lt2.false, ← c.matched.ensures, c.in-Some.is)
 
-pub returns-in-Missing : goal.returns-in-Missing
+pub returns-in-None : goal.returns-in-None
 unfolding located_of
-returns-in-Missing c = rw (le-ltb _ _ c.if-version-lt2.false, ← c.matched.ensures, c.in-Missing.is) c.searched.ensures
+returns-in-None c = rw (le-ltb _ _ c.if-version-lt2.false, ← c.matched.ensures, c.in-None.is) c.searched.ensures

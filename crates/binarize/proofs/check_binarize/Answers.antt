@@ -5,24 +5,25 @@ use mathlib.Core.List.{[], ◌∷◌}
 use native.Mathlib.Omega.{arith}
 use borrow.Author.Tests.{lt-ltb, le-ltb}
 use Rattle.lists.proofs.Numbers.{mul_bound}
+use Rattle.lcr_core.proofs.Checks.{same_number, some_number}
 use Rattle.blocks.specs.Blocks.{blocks_refusal}
 use Rattle.blocks.proofs.Refusals as blocks
 use Rattle.binarize.proofs.Refusals.{values_refused, room_decides}
-use Rattle.binarize.proofs.check_binarize.Goals.{Else-number-ne0}
+use Rattle.binarize.proofs.check_binarize.Goals.{In_ok-check_blocks}
 use Rattle.binarize.proofs.check_binarize.Goals as goal
 
 -- the checks of the values passed
-passed : (c : Else-number-ne0) → let a = c.args in
+passed : (c : In_ok-check_blocks) → let a = c.args in
     blocks_refusal a.len a.width a.height (a.means ∷ a.least ∷ a.greatest ∷ a.edges ∷ a.nears ∷ []) ≡ 0
-passed c = sym c.check_blocks-checked.ensures ∙ sym c.number.ensures ∙ c.if-number-ne0.false
+passed c = sym c.in_ok-check_blocks.ensures
 
-area : (c : Else-number-ne0) → let a = c.args in a.width * a.height ≤ 16777216
+area : (c : In_ok-check_blocks) → let a = c.args in a.width * a.height ≤ 16777216
 area c = let s = (blocks.passes _ _ _ _ _ _ _ _ (passed c)).sides in mul_bound _ _ 4096 4096 s.w_most s.h_most
 
-pub returns-then-number-ne0 : goal.returns-then-number-ne0
-returns-then-number-ne0 c =
-    let e = c.check_blocks-checked.ensures in
-    e ∙ values_refused _ _ _ _ _ (λ z. c.if-number-ne0.true (c.number.ensures ∙ e ∙ z))
+pub returns-in_err-check_blocks : goal.returns-in_err-check_blocks
+returns-in_err-check_blocks c =
+    let e = c.in_err-check_blocks.ensures in
+    same_number _ _ c.from_residual.ensures.1 ∙ e ∙ values_refused _ _ _ _ _ (λ z. some_number _ (e ∙ z))
 
 pub overflow_mul-width : goal.overflow_mul-width
 overflow_mul-width c = omega (arith, area c)
@@ -31,7 +32,7 @@ pub overflow_add-width : goal.overflow_add-width
 overflow_add-width c = omega (arith, area c)
 
 pub returns-then-room-width : goal.returns-then-room-width
-returns-then-room-width c = simp (lt-ltb _ _ c.if-room-width.true) at (room_decides _ _ _ c.args.room _ (passed (goal.at.returns-then-room-width c).Else-number-ne0))
+returns-then-room-width c = simp (lt-ltb _ _ c.if-room-width.true) at (room_decides _ _ _ c.args.room _ (passed (goal.at.returns-then-room-width c).In_ok-check_blocks))
 
 pub returns : goal.returns
-returns c = simp (le-ltb _ _ c.if-room-width.false) at (room_decides _ _ _ c.args.room _ (passed (goal.at.returns c).Else-number-ne0))
+returns c = simp (le-ltb _ _ c.if-room-width.false) at (room_decides _ _ _ c.args.room _ (passed (goal.at.returns c).In_ok-check_blocks))

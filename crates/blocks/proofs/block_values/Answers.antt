@@ -1,18 +1,19 @@
 -- `blocks::block_values` meets its contract. Assumes nothing.
-use mathlib.Core.Path.{◌≡◌, sym, ◌∙◌}
-use Rattle.lcr_core.specs.Outcome.{number_of}
-use Rattle.lcr_core.proofs.Checks.{unless-refused}
+use mathlib.Core.Path.{sym, ◌∙◌}
+use Rattle.lcr_core.proofs.Checks.{same_number, unless_error}
 use Rattle.blocks.proofs.Refusals.{passes}
 use Rattle.blocks.proofs.block_values.Goals as goal
 
-pub returns-then-number-ne0 : goal.returns-then-number-ne0
-returns-then-number-ne0 c =
-    let r : number_of c.check_blocks-checked.result ≡ 0 → ⊥ = λ e. c.if-number-ne0.true (c.number.ensures ∙ e) in record { refusal = c.check_blocks-checked.ensures; means = unless-refused _ _ _ r; least = unless-refused _ _ _ r; greatest = unless-refused _ _ _ r; edges = unless-refused _ _ _ r; nears = unless-refused _ _ _ r }
+pub returns-in_err-check_blocks : goal.returns-in_err-check_blocks
+returns-in_err-check_blocks c =
+    let q = same_number _ _ c.from_residual.ensures.1 in
+    let r = sym q in
+    record { refusal = q ∙ c.in_err-check_blocks.ensures; means = unless_error _ _ _ _ r; least = unless_error _ _ _ _ r; greatest = unless_error _ _ _ _ r; edges = unless_error _ _ _ _ r; nears = unless_error _ _ _ _ r }
 
 pub values_checked-requires : goal.values_checked-requires
-values_checked-requires c =
-    passes _ _ _ _ _ _ _ _ (sym c.check_blocks-checked.ensures ∙ sym c.number.ensures ∙ c.if-number-ne0.false)
+values_checked-requires c = passes _ _ _ _ _ _ _ _ (sym c.in_ok-check_blocks.ensures)
 
 pub returns : goal.returns
 returns c =
-    record { refusal = sym c.if-number-ne0.false ∙ c.number.ensures ∙ c.check_blocks-checked.ensures; means = c.values_checked.ensures.means_after; least = c.values_checked.ensures.least_after; greatest = c.values_checked.ensures.greatest_after; edges = c.values_checked.ensures.edges_after; nears = c.values_checked.ensures.nears_after }
+    let v = c.values_checked.ensures in
+    record { refusal = c.in_ok-check_blocks.ensures; means = v.means_after; least = v.least_after; greatest = v.greatest_after; edges = v.edges_after; nears = v.nears_after }

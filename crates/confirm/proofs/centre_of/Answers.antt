@@ -2,10 +2,10 @@
 use Rattle.confirm.specs.Confirm.{centre_of}
 use Rattle.confirm.proofs.centre_of.Goals as goal
 
-pub returns-in-Module : goal.returns-in-Module
+pub returns-in-Some : goal.returns-in-Some
 unfolding centre_of
-returns-in-Module c = rw (← c.matches_finder.ensures, c.in-Module.is)
+returns-in-Some c = rw (← c.matches_finder.ensures, c.in-Some.is)
 
-pub returns-in-Nothing : goal.returns-in-Nothing
+pub returns-in-None : goal.returns-in-None
 unfolding centre_of
-returns-in-Nothing c = rw (← c.matches_finder.ensures, c.in-Nothing.is)
+returns-in-None c = rw (← c.matches_finder.ensures, c.in-None.is)

@@ -3,12 +3,12 @@ use mathlib.Core.Path.{◌∙◌}
 use Rattle.firmware.proofs.Bytes.{flagged_is}
 use Rattle.firmware.proofs.put_marker.Goals as goal
 
-pub returns-in-At : goal.returns-in-At
-returns-in-At c =
+pub returns-in-Some : goal.returns-in-Some
+returns-in-Some c =
     let a = c.args in
-    c.put32-in-At.ensures ∙ rw c.in-At.is (cc (flagged_is 1 _ _ a.at a.out.now))
+    c.put32-in-Some.ensures ∙ rw c.in-Some.is (cc (flagged_is 1 _ _ a.at a.out.now))
 
-pub returns-in-Missing : goal.returns-in-Missing
-returns-in-Missing c =
+pub returns-in-None : goal.returns-in-None
+returns-in-None c =
     let a = c.args in
-    c.put32-in-Missing-2.ensures ∙ rw c.in-Missing.is (cc (flagged_is 0 0 0 a.at a.out.now))
+    c.put32-in-None-2.ensures ∙ rw c.in-None.is (cc (flagged_is 0 0 0 a.at a.out.now))

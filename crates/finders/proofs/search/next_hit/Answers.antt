@@ -32,11 +32,11 @@ overflow_sub-len-in-loop-at c = omega arith
 pub overflow_add-end : goal.overflow_add-end
 overflow_add-end c = omega arith
 
-pub returns-in-Module : goal.returns-in-Module
-returns-in-Module c =
-    let t = turn (goal.at.returns-in-Module c).After-run_on-dark in
+pub returns-in-Some : goal.returns-in-Some
+returns-in-Some c =
+    let t = turn (goal.at.returns-in-Some c).After-run_on-dark in
     let l = c.loop-at in (
-      l.invariant.3 ∙ hits_hit t _ c.matches_finder.ensures _ c.in-Module.is,
+      l.invariant.3 ∙ hits_hit t _ c.matches_finder.ensures _ c.in-Some.is,
       omega (arith, progress t, l.invariant.2),
       omega (arith, c.run_on-light.ensures.most, c.run_on-dark.ensures.most, c.loop-at-test.true),
       omega (arith, l.invariant.1),
@@ -51,7 +51,7 @@ loop-at-preserved c =
       omega (arith, c.run_on-light.ensures.most, c.run_on-dark.ensures.most, c.loop-at-test.true),
       omega (arith, l.invariant.1),
       omega (arith, l.invariant.2),
-      l.invariant.3 ∙ hits_skip (turn (goal.at.loop-at-preserved c).After-run_on-dark) _ c.matches_finder.ensures c.in-Nothing.is,
+      l.invariant.3 ∙ hits_skip (turn (goal.at.loop-at-preserved c).After-run_on-dark) _ c.matches_finder.ensures c.in-None.is,
     )
 
 pub returns : goal.returns

@@ -1,26 +1,19 @@
 -- `image::denoise::denoised` meets its contract. Assumes nothing.
-use mathlib.Core.Path.{◌≡◌, sym, ◌∙◌}
-use lib.ListN.{length}
-use Rattle.lcr_core.proofs.Checks.{unless-refused, unless_done}
-use Rattle.image.specs.Denoise.{denoised_refusal, denoised_written}
+use mathlib.Core.Path.{sym, ◌∙◌}
+use Rattle.lcr_core.proofs.Checks.{same_number, unless_error, unless_done}
+use Rattle.image.specs.Denoise.{denoised_written}
 use Rattle.image.proofs.Votes.{passes}
-use Rattle.image.proofs.denoise.denoised.Goals.{After-number}
 use Rattle.image.proofs.denoise.denoised.Goals as goal
 
--- the number that was tested is the refusal's
-same : (c : After-number) → let a = c.args in
-    c.number.result ≡ denoised_refusal (length a.bits.now) a.width a.height (length a.out.now)
-same c = c.number.ensures ∙ c.check_denoised-checked.ensures
-
-pub returns-then-number-ne0 : goal.returns-then-number-ne0
+pub returns-in_err-check_denoised : goal.returns-in_err-check_denoised
 unfolding denoised_written
-returns-then-number-ne0 c = record { number = c.check_denoised-checked.ensures; written = unless-refused _ _ _ (λ e. c.if-number-ne0.true (same (goal.at.returns-then-number-ne0 c).After-number ∙ e)) }
+returns-in_err-check_denoised c =
+    let r = c.in_err-check_denoised.ensures in
+    record { number = same_number _ _ c.from_residual.ensures.1 ∙ r; written = unless_error _ _ _ _ r }
 
 pub denoise_bytes-requires : goal.denoise_bytes-requires
-denoise_bytes-requires c = passes _ _ _ _ (sym (same (goal.at.denoise_bytes-requires c).After-number) ∙ c.if-number-ne0.false)
+denoise_bytes-requires c = passes _ _ _ _ (sym c.in_ok-check_denoised.ensures)
 
 pub returns : goal.returns
 unfolding denoised_written
-returns c =
-    let zero = sym (same (goal.at.returns c).After-number) ∙ c.if-number-ne0.false in
-    record { number = sym zero; written = c.denoise_bytes.ensures ∙ unless_done _ _ _ zero }
+returns c = record { number = c.in_ok-check_denoised.ensures; written = c.denoise_bytes.ensures ∙ unless_done _ _ _ (sym c.in_ok-check_denoised.ensures) }

@@ -3,15 +3,15 @@ use native.Mathlib.Omega.{arith}
 use Rattle.listing_text.proofs.LineLaws.{marker_wrote, missing_wrote}
 use Rattle.listing_text.proofs.lines.put_marker.Goals as goal
 
-pub returns-in-At : goal.returns-in-At
-returns-in-At c =
+pub returns-in-Some : goal.returns-in-Some
+returns-in-Some c =
     let a = c.args in
     let p = c.put_single-a.ensures in
     let q = c.put_single.ensures in
-    record { text = marker_wrote a.m _ a.at _ _ _ _ _ c.in-At.is p.text q.text; most = omega (arith, p.most, q.most) }
+    record { text = marker_wrote a.m _ a.at _ _ _ _ _ c.in-Some.is p.text q.text; most = omega (arith, p.most, q.most) }
 
-pub returns-in-Missing : goal.returns-in-Missing
-returns-in-Missing c =
+pub returns-in-None : goal.returns-in-None
+returns-in-None c =
     let a = c.args in
     let p = c.put_field.ensures in
-    record { text = missing_wrote a.m a.at _ _ _ c.in-Missing.is p; most = omega (arith, p.1) }
+    record { text = missing_wrote a.m a.at _ _ _ c.in-None.is p; most = omega (arith, p.1) }
