@@ -1,8 +1,9 @@
 -- What the searched table says of the answer, and the refusals. Assumes nothing.
 use Rattle.std.proofs.Common.{◌≡◌, ℕ, ◌+◌, ◌≤◌, Bool, true, false, cond, List, [], length, sym, refl, ap, ◌∙◌, true≢false, arith}
-use Rattle.lcr_core.specs.Outcome.{number_of, zero_side, large_side, unless}
+use Rattle.lcr_core.specs.Outcome.{refusal_number, zero_side, large_side, unless}
 use Rattle.lcr_core.specs.declared.Refusal.{Refusal}
 use Rattle.lcr_core.specs.declared.Refusal.TheVariants.{FullTable}
+use Rattle.lcr_core.proofs.Checks.{some_number}
 use Rattle.lcr_core.specs.Passed.{Sides}
 use Rattle.binary.specs.Refusal.{short_bits, bits_refusal}
 use Rattle.finders.specs.declared.Finders.{Finders}
@@ -62,10 +63,10 @@ module _ (bits : List ℕ) (width height : ℕ) (p : Sides width height) where
       (w, (let n : r.finders.count ≡ length (held_in r.finders) = ap (λ (z : Finders). z.count) w in omega (arith, (open_fine r k s f).0)))
 
 -- ---- the refusals
-module _ (bits : List ℕ) (width height n : ℕ) (e : n ≡ bits_refusal (length bits) width height) where
-  pub refuse_is : (o : Outcome) → n ≡ number_of o → (n ≡ 0 → ⊥) → refused o ≡ answer_of bits width height
+module _ (bits : List ℕ) (width height : ℕ) where
+  pub refuse_is : (r : Refusal) → refusal_number r ≡ bits_refusal (length bits) width height → refused r ≡ answer_of bits width height
   unfolding answer_of find_refusal bits_refusal
-  refuse_is o q h = go (zero_side width height) (large_side width height) (short_bits (length bits) width height) (is_over (found bits width height)) (ranked (held_list (found bits width height))) (number_of o) (sym q ∙ e) (λ z. h (q ∙ z))
+  refuse_is r e = go (zero_side width height) (large_side width height) (short_bits (length bits) width height) (is_over (found bits width height)) (ranked (held_list (found bits width height))) (refusal_number r) e (some_number r)
     where
       go : (a b c o : Bool) (fs : List _) (n : ℕ) → n ≡ cond a 1 (cond b 2 (cond c 4 0)) → (n ≡ 0 → ⊥)
           → ◌≡◌ {A = Found} (record { refusal = n; finders = table_of [] }) (record { refusal = cond a 1 (cond b 2 (cond c 4 (cond o 6 0))); finders = table_of (unless (cond a 1 (cond b 2 (cond c 4 (cond o 6 0)))) [] fs) })
@@ -74,9 +75,9 @@ module _ (bits : List ℕ) (width height n : ℕ) (e : n ≡ bits_refusal (lengt
       go false false true o fs n e h = rw e
       go false false false o fs n e h = absurd (h e)
 
-  pub accept : n ≡ 0 → outcome (found bits width height) ≡ answer_of bits width height
+  pub accept : 0 ≡ bits_refusal (length bits) width height → outcome (found bits width height) ≡ answer_of bits width height
   unfolding answer_of find_refusal bits_refusal
-  accept h = go (zero_side width height) (large_side width height) (short_bits (length bits) width height) (found bits width height) (sym e ∙ h)
+  accept e = go (zero_side width height) (large_side width height) (short_bits (length bits) width height) (found bits width height) (sym e)
     where
       go : (a b c : Bool) (s : Held) → ◌≡◌ {A = ℕ} (cond a 1 (cond b 2 (cond c 4 0))) 0
           → outcome s ≡ record { refusal = cond a 1 (cond b 2 (cond c 4 (cond (is_over s) 6 0))); finders = table_of (unless (cond a 1 (cond b 2 (cond c 4 (cond (is_over s) 6 0)))) [] (ranked (held_list s))) }

@@ -2,4 +2,4 @@
 use Rattle.finders.proofs.refuse.Goals as goal
 
 pub returns : goal.returns
-returns c = rw (c.number.ensures, c.no_finders-none.ensures)
+returns c = rw (c.from.ensures, c.no_finders-none.ensures)
