@@ -1,18 +1,17 @@
 -- Laws of gray conversion. Assumes nothing.
 use Rattle.std.specs.Prelude.{Option, Some, None}
-use mathlib.Core.Path.{◌≡◌, refl, sym, ◌∙◌}
+use mathlib.Core.Path.{◌≡◌, refl, sym}
 use mathlib.Core.Bool.{Bool, cond, true, false}
 use mathlib.Core.List.{List}
 use mathlib.Core.Logic.{◌⊎◌, inl, inr}
-use Prim.Native.Nat.{ℕ, zero, suc, ◌+◌, ◌-◌, ◌*◌, ◌^◌, ◌≤◌, ◌<◌}
+use Prim.Native.Nat.{ℕ, ◌+◌, ◌-◌, ◌*◌, ◌^◌, ◌≤◌, ◌<◌}
 use native.Mathlib.Omega.{arith}
-use native.Mathlib.Nat.{add_assoc, mul_comm, mul-le-mul_right, mul-one}
-use lib.ListN.{length, get_or, take, drop}
-use lib.Seq.{get_or-take, get_or-drop, take-suc, take-length}
+use native.Mathlib.Nat.{add_assoc, mul_comm, mul-le-mul_right}
+use lib.ListN.{get_or, take, drop}
+use lib.Seq.{get_or-take, get_or-drop}
 use lib.Dec.{eqb, ltb}
 use lib.Arith.{digits_div, digits_mod}
 use borrow.Author.Tests.{eqb-true, ne_eqb, ltb-false}
-use Rattle.lists.specs.Lists.{tabulate}
 use Rattle.lists.proofs.Numbers.{row_within}
 use Rattle.lcr_core.specs.Outcome.{zero_side, large_side}
 use Rattle.lcr_core.proofs.Checks.{or_false, first_passes, sides_pass}
@@ -98,16 +97,3 @@ unfolding gray_at
 gray_row-at p w s f y x k h =
     simp (digits_div y h, digits_mod y h)
     (gray_part p f (y * s) (y * s + w * f - y * s) (x * f) k (omega (arith, row_within x w f h)))
-
--- the first n elements of a list, read one by one
-tabulate_taken : (p : List ℕ) (n : ℕ) → n ≤ length p → tabulate n (λ k. get_or p k 0) ≡ take n p
-unfolding tabulate
-tabulate_taken p zero h = refl
-tabulate_taken p (suc n) h = rw (tabulate_taken p n (omega arith), take-suc p n 0) refl
-
--- a row of gray pixels keeps its bytes
-pub copied : (p : List ℕ) (n : ℕ) → length p ≡ n * 1 → p ≡ tabulate n (λ x. gray_of p 1 (x * 1))
-unfolding gray_of
-copied p n e =
-    let whole : n ≡ length p = omega arith in
-    simp mul-one (rw whole (sym (tabulate_taken p (length p) (omega arith) ∙ take-length p)))
