@@ -2,7 +2,6 @@
 use borrow.Author.Tests.{lt-ltb, le-ltb}
 use native.Mathlib.Omega.{arith}
 use mathlib.Core.Path.{◌≡◌, refl, sym, ap, ◌∙◌}
-use mathlib.Core.Bool.{true, false}
 use Rattle.std.specs.Prelude.{take}
 use Rattle.lists.proofs.Numbers.{mul_bound}
 use Rattle.lcr_core.specs.Outcome.{first_of, sides_refusal}
