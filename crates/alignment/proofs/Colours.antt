@@ -13,13 +13,13 @@ use Rattle.binary.specs.Binary.{bit}
 use Rattle.transform.specs.declared.Transform.{Transform}
 use Rattle.alignment.specs.declared.template.Site.{Site}
 use Rattle.alignment.specs.Template.{module_dark}
-use Rattle.alignment.specs.Known.{half_at, colour_at, KnownAt, Known}
+use Rattle.alignment.specs.Known.{half_at, colour_at, Known}
 use Rattle.alignment.proofs.Halves.{place_is}
 
 module _ (bits : List ℕ) (w h : ℕ) (t : Transform) where
   -- an empty table says nothing
   pub known_nothing : (c : Float) (m : ℕ) (step : Float) (best : Site) (colours : List ℕ) → length colours ≡ 0 → Known bits w h t c m step best colours
-  unfolding Known KnownAt
+  unfolding Known
   known_nothing c m step best colours e = λ k l i j p q some. absurd (omega arith)
 
   at_place : (n a b i j : ℕ) → a < 13 → i < 5 → colour_at bits w h t n (a + 21 * b + 2 * i + 42 * j) ≡ bit (module_dark bits w h t (half_at (n + (a + 2 * i))) (half_at (n + (b + 2 * j))))
@@ -31,7 +31,7 @@ module _ (bits : List ℕ) (w h : ℕ) (t : Transform) where
 
   pub known_all : (side : ℕ) (best : Site) (colours : List ℕ) → 12 ≤ side → side ≤ 4096 → best.x ≡ f0 → best.y ≡ f0 → colours ≡ tabulate 441 (colour_at bits w h t (2 * side - 23))
       → Known bits w h t (minus32 (whole32 side) f6_5) 13 half best colours
-  unfolding Known KnownAt
+  unfolding Known
   known_all side best colours l g x y e = λ k a i j p q some.
       let z = k % 13 + 21 * (k / 13) + 2 * i + 42 * j in
       let n = 2 * side - 23 in

@@ -1,10 +1,11 @@
 -- The taps of a module: where the first three agree, the other two cannot change the majority. Assumes nothing.
-use mathlib.Core.Path.{◌≡◌, sym, ◌∙◌}
+use mathlib.Core.Path.{◌≡◌, refl, sym, ◌∙◌}
 use mathlib.Core.Bool.{Bool, true, false, cond, ◌||◌}
 use mathlib.Core.List.{List}
 use Prim.Native.Nat.{ℕ, ◌+◌, ◌*◌, ◌≤◌}
 use native.Mathlib.Omega.{arith}
 use lib.Dec.{ltb}
+use mir.Val.{bool_byte as from_bool}
 use lib.Ieee.{Float, neg}
 use borrow.Author.Tests.{lt-ltb, le-ltb}
 use Rattle.lists.specs.Lists.{folded}
@@ -18,6 +19,11 @@ use Rattle.alignment.specs.declared.template.Votes.{Votes}
 use Rattle.alignment.specs.Template.{outside_of, pixel_at, tapped, tap_by, no_votes, module_dark}
 use Rattle.alignment.specs.Counting.{Counted}
 
+pub bit_from : (d : Bool) → from_bool d ≡ bit d
+unfolding bit
+bit_from true = refl
+bit_from false = refl
+
 pub bit_most : (d : Bool) → bit d ≤ 1
 bit_most d = omega (arith, bit_small d)
 
@@ -30,6 +36,10 @@ counted v n h = record { kept = omega arith; most = omega arith; darker = omega 
 
 pub same_counted : (v : Votes) → Counted v v
 same_counted v = record { kept = omega arith; most = omega arith; darker = omega arith; within = omega arith }
+
+-- the votes r after a tap at p, which is q
+pub tap_is : (bits : List ℕ) (w h : ℕ) (v r : Votes) (p q : Point) → r ≡ tapped bits w h v p → p ≡ q → r ≡ tapped bits w h v q
+tap_is bits w h v r p q e f = rw (← f) e
 
 tap_counted : (bits : List ℕ) (w h : ℕ) (v : Votes) (p : Point) → Counted v (tapped bits w h v p)
 unfolding tapped

@@ -17,7 +17,7 @@ module _ (bits : List ℕ) (w h : ℕ) (t : Transform) where
   colour_at n k = bit (module_dark bits w h t (half_at (n + k % 21)) (half_at (n + k / 21)))
 
   -- a table that is not empty has, from place p on, the colours of the marker's modules about (x, y): the next column is two places on, the next row two rows
-  unfoldable pub KnownAt : Float → Float → List ℕ → ℕ → Type 0
+  abbrev pub KnownAt : Float → Float → List ℕ → ℕ → Type 0
   KnownAt x y colours p = (i j : ℕ) → i < 5 → j < 5 → 0 < length colours
       → (p + 2 * i + 42 * j < length colours) × (get_or colours (p + 2 * i + 42 * j) 0 ≡ bit (module_dark bits w h t (plus32 x (less i 2)) (plus32 y (less j 2))))
 

@@ -1,15 +1,16 @@
 // The alignment marker: a template match through the transform, and a search along rows where that finds none.
 #![tactic(auto)]
 
-ghost use Rattle.std.specs.Prelude.{◌≡◌, ◌≤◌};
+ghost use Rattle.std.specs.Prelude.{◌≡◌};
 ghost use Rattle.alignment.specs.Alignment.{alignment_refusal, match_of, searched_of, located_of, locate_of, is_found, rebuilt_of, refine_of};
 
 use binary::refusal::check_bits;
 use geometry::{Corners, build_transform};
 use lcr_core::number;
 use lcr_core::version::Version;
-use matching::{centre, matched};
+use matching::centre;
 use rows::{Located, find_alignment};
+use template::View;
 use transform::{Point, Transform};
 
 mod matching;
@@ -55,31 +56,39 @@ pub fn match_alignment(
             marker: None,
         };
     }
-    let marker = matched(bits, width as u16, height as u16, t, v);
+    let view = View {
+        bits,
+        width: width as u16,
+        height: height as u16,
+        transform: t,
+    };
+    let marker = view.matched(v);
     Located { refusal: 0, marker }
 }
 
-// The marker by runs along rows, about the place where the transform puts its centre.
-fn searched(bits: &[u8], width: u32, height: u32, t: Transform, version: u8, module: f32) -> Option<Point>
-    ensures { result ≡ searched_of bits.now width height t version «module» }
-{
-    let c = centre(version);
-    let found = find_alignment(bits, width, height, t.apply(c, c), module);
-    let marker = found.marker;
-    marker
-}
-
-// The marker by its modules, or else by runs along rows.
-fn located(bits: &[u8], width: u32, height: u32, t: Transform, version: u8, module: f32) -> Option<Point>
-    requires { (width ≤ 4096) × (height ≤ 4096) }
-    ensures { result ≡ located_of bits.now width height t version «module» }
-{
-    if version < 2 {
-        return None;
+impl<'a> View<'a> {
+    // The marker by runs along rows, about the place where the transform puts its centre.
+    fn searched(&self, version: u8, module: f32) -> Option<Point>
+        ensures { let s = self.now in result ≡ searched_of s.bits.now s.width s.height s.transform version «module» }
+    {
+        let (width, height) = (self.width as u32, self.height as u32);
+        let c = centre(version);
+        let found = find_alignment(self.bits, width, height, self.transform.apply(c, c), module);
+        let marker = found.marker;
+        marker
     }
-    match matched(bits, width as u16, height as u16, t, version) {
-        Some(p) => Some(p),
-        None => searched(bits, width, height, t, version, module),
+
+    // The marker by its modules, or else by runs along rows.
+    fn located(&self, version: u8, module: f32) -> Option<Point>
+        ensures { let s = self.now in result ≡ located_of s.bits.now s.width s.height s.transform version «module» }
+    {
+        if version < 2 {
+            return None;
+        }
+        match self.matched(version) {
+            Some(p) => Some(p),
+            None => self.searched(version, module),
+        }
     }
 }
 
@@ -102,7 +111,13 @@ pub fn locate_alignment(
             marker: None,
         };
     }
-    let marker = located(bits, width, height, t, v, module);
+    let view = View {
+        bits,
+        width: width as u16,
+        height: height as u16,
+        transform: t,
+    };
+    let marker = view.located(v, module);
     Located { refusal: 0, marker }
 }
 
@@ -151,7 +166,13 @@ pub fn refine_alignment(
             marker: None,
         };
     }
-    let marker = located(bits, width, height, transform, v, module);
+    let view = View {
+        bits,
+        width: width as u16,
+        height: height as u16,
+        transform,
+    };
+    let marker = view.located(v, module);
     let transform = rebuilt(corners, marker, version, transform);
     Refined {
         refusal: 0,

@@ -16,11 +16,11 @@ pub returns-then-refusal-ne0 : goal.returns-then-refusal-ne0
 unfolding match_of
 returns-then-refusal-ne0 c = refused _ _ _ c.if-refusal-ne0.true c.check-refusal.ensures
 
-pub overflow_cast-width : goal.overflow_cast-width
-overflow_cast-width c = omega (arith, sides c)
+pub overflow_cast-view : goal.overflow_cast-view
+overflow_cast-view c = omega (arith, sides c)
 
-pub overflow_cast-height : goal.overflow_cast-height
-overflow_cast-height c = omega (arith, sides c)
+pub overflow_cast-view-2 : goal.overflow_cast-view-2
+overflow_cast-view-2 c = omega (arith, sides c)
 
 pub returns : goal.returns
 unfolding match_of

@@ -1,4 +1,5 @@
 -- `alignment::refine_alignment` meets its contract. Assumes nothing.
+use native.Mathlib.Omega.{arith}
 use mathlib.Core.Path.{sym, ◌∙◌}
 use Rattle.lcr_core.specs.Passed.{Sides}
 use Rattle.alignment.proofs.Refusals.{passed}
@@ -15,8 +16,11 @@ pub returns-then-refusal-ne0 : goal.returns-then-refusal-ne0
 unfolding refine_of
 returns-then-refusal-ne0 c = rw c.zero.ensures (refining_refused _ _ _ _ c.if-refusal-ne0.true c.check-refusal.ensures)
 
-pub located-marker-requires : goal.located-marker-requires
-located-marker-requires c = ((sides c).w_most, (sides c).h_most)
+pub overflow_cast-view : goal.overflow_cast-view
+overflow_cast-view c = omega (arith, sides c)
+
+pub overflow_cast-view-2 : goal.overflow_cast-view-2
+overflow_cast-view-2 c = omega (arith, sides c)
 
 pub returns : goal.returns
 unfolding refine_of

@@ -1,0 +1,19 @@
+-- `alignment::template::View::first_sweep` meets its contract. Assumes nothing.
+use mathlib.Core.Path.{refl}
+use native.Mathlib.Omega.{arith}
+use lib.Ieee.{of_bits, div}
+use Rattle.lcr_core.specs.Version.{side_of}
+use Rattle.alignment.specs.Template.{centre_of}
+use Rattle.alignment.proofs.Colours.{known_all}
+use Rattle.alignment.proofs.template.View.first_sweep.Goals as goal
+
+pub sweep-requires : goal.sweep-requires
+unfolding centre_of
+sweep-requires c =
+    let a = c.args in let s = a.self.now in
+    let e = rw c.side.ensures at c.fill_colours.ensures in
+    (omega arith, omega arith, rw c.centre.ensures (known_all s.bits.now s.width s.height s.transform (side_of a.version) _ _ (omega arith) (omega arith) refl refl e))
+
+pub returns : goal.returns
+unfolding of_bits div
+returns c = rw (← c.centre.ensures) c.sweep.ensures

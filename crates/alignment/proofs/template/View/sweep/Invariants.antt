@@ -1,0 +1,9 @@
+-- `alignment::template::View::sweep` meets its contract. Assumes nothing.
+use Prim.Native.Nat.{◌*◌}
+use mathlib.Core.Path.{◌≡◌}
+use Rattle.lists.specs.Lists.{folded, range}
+use Rattle.alignment.specs.Template.{visited}
+use Rattle.alignment.proofs.template.View.sweep.Given as goal
+
+abbrev pub invariant-loop-k : goal.invariant-loop-k
+invariant-loop-k l = let s = l.self in let g = visited s.bits.now s.width s.height s.transform l.c l.m l.step l.best.x l.best.y in folded g l.best (range 0 (l.m * l.m)) ≡ folded g l.nearest (range l.k (l.m * l.m))
