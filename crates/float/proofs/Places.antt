@@ -5,10 +5,10 @@ use mathlib.Core.Bool.{Bool, true, false, not, cond}
 use Prim.Native.Nat.{ℕ, ◌+◌, ◌-◌, ◌*◌, ◌%◌, ◌^◌, ◌≤◌, ◌<◌}
 use native.Mathlib.Nat.{eq-or-lt_of_le, mod-lt}
 use native.Mathlib.Omega.{arith}
-use lib.Dec.{T, leb, ltb, lit<}
+use lib.Dec.{leb, ltb, lit<}
 use lib.Pow.{pow_pos}
-use lib.Ieee.{Float, nan, inf, fin, binary32, hid, ones, top, fits, is_nan, of_bits, to_bits, below, lt}
-use lib.Ieee.Bits.{of_bits-to_bits, nan_bits_is, nan_bits_above}
+use lib.Ieee.{Float, nan, inf, fin, binary32, hid, ones, top, is_nan, of_bits, below, lt}
+use lib.Ieee.Bits.{nan_bits_is, nan_bits_above}
 use lib.Ieee.Exact.{HasValue}
 use borrow.Author.Tests.{ltb-true, ltb-false, lt-ltb, le-ltb}
 use Rattle.float.specs.Fields.{val, place_of}
@@ -16,6 +16,10 @@ use Rattle.float.proofs.Patterns.{bits_val, bits_inf}
 use Rattle.float.proofs.Magnitudes.{val_mono, val-le, val_pos}
 use Rattle.float.proofs.Order.{below_scale}
 use Rattle.float.proofs.Exactly.{lt_at}
+
+-- ---- whether a pattern is a NaN's
+pub nan_test : (m : ℕ) → is_nan (of_bits binary32 m) ≡ ltb (ones binary32 * hid binary32) (m % top binary32)
+nan_test m = sym (nan_bits_is binary32 m) ∙ nan_bits_above binary32 m
 
 -- two tests of which each follows from the other
 alike : (a b c d : ℕ) → (a < b → c < d) → (b ≤ a → d ≤ c) → ltb c d ≡ ltb a b
@@ -123,23 +127,10 @@ places false a true b h k = le-ltb (2147483648 + a) (2147483648 - b) (omega arit
 places true a false b h k = alike 0 (a + b) (2147483648 - a) (2147483648 + b) (λ l. omega arith) (λ l. omega arith)
 places true a true b h k = alike b a (2147483648 - a) (2147483648 - b) (λ l. omega arith) (λ l. omega arith)
 
-pub lt_places : (m n : ℕ) → m % top binary32 ≤ ones binary32 * hid binary32 → n % top binary32 ≤ ones binary32 * hid binary32 → ltb (place_of m) (place_of n) ≡ lt (of_bits binary32 m) (of_bits binary32 n)
+-- a pattern of no NaN has a magnitude up to the infinity's
+number : (m : ℕ) → is_nan (of_bits binary32 m) ≡ false → m % top binary32 ≤ ones binary32 * hid binary32
+number m e = ltb-false (ones binary32 * hid binary32) (m % top binary32) (sym (nan_test m) ∙ e)
+
+pub lt_places : (m n : ℕ) → is_nan (of_bits binary32 m) ≡ false → is_nan (of_bits binary32 n) ≡ false → ltb (place_of m) (place_of n) ≡ lt (of_bits binary32 m) (of_bits binary32 n)
 lt_places m n h k =
-    places (leb (top binary32) m) (m % top binary32) (leb (top binary32) n) (n % top binary32) (mod-lt m (lit< tt)) (mod-lt n (lit< tt)) ∙ sym (lt_bits m n h k)
-
--- a NaN is below nothing, and nothing below it
-pub lt-nan : (x : Float) → (lt nan x ≡ false) × (lt x nan ≡ false)
-unfolding lt
-lt-nan nan = (refl, refl)
-lt-nan (inf s) = (refl, refl)
-lt-nan (fin s m e) = (refl, refl)
-
--- ---- for a float that the format holds, by its pattern
-back : (x : Float) (m : ℕ) → T (fits binary32 x) → m ≡ to_bits binary32 x → of_bits binary32 m ≡ x
-back x m p e = ap (of_bits binary32) e ∙ of_bits-to_bits binary32 x p
-
-pub nan_test : (x : Float) (m : ℕ) → T (fits binary32 x) → m ≡ to_bits binary32 x → is_nan x ≡ ltb (ones binary32 * hid binary32) (m % top binary32)
-nan_test x m p e = ap is_nan (sym (back x m p e)) ∙ sym (nan_bits_is binary32 m) ∙ nan_bits_above binary32 m
-
-pub lt_test : (x y : Float) (m n : ℕ) → T (fits binary32 x) → T (fits binary32 y) → m ≡ to_bits binary32 x → n ≡ to_bits binary32 y → lt (of_bits binary32 m) (of_bits binary32 n) ≡ lt x y
-lt_test x y m n p q e f = ap (λ (z : Float). lt z (of_bits binary32 n)) (back x m p e) ∙ ap (lt x) (back y n q f)
+    places (leb (top binary32) m) (m % top binary32) (leb (top binary32) n) (n % top binary32) (mod-lt m (lit< tt)) (mod-lt n (lit< tt)) ∙ sym (lt_bits m n (number m h) (number n k))

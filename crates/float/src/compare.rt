@@ -15,14 +15,18 @@ fn place(n: u32) -> u32
     }
 }
 
+// Whether n is the pattern of a NaN: its magnitude is above the infinity's.
+pub fn is_nan(n: u32) -> bool
+    ensures { result ≡ Ieee.is_nan (Ieee.of_bits binary32 n) }
+{
+    n % 0x8000_0000 > 0x7f80_0000
+}
+
 // Whether the number of m is below that of n; false where one is a NaN.
 pub fn below(m: u32, n: u32) -> bool
     ensures { result ≡ Ieee.lt (Ieee.of_bits binary32 m) (Ieee.of_bits binary32 n) }
 {
-    if m % 0x8000_0000 > 0x7f80_0000 {
-        return false;
-    }
-    if n % 0x8000_0000 > 0x7f80_0000 {
+    if is_nan(m) || is_nan(n) {
         return false;
     }
     place(m) < place(n)

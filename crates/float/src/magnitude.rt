@@ -1,40 +1,23 @@
 // A magnitude is a bit pattern without its sign's bit: sig * 2 ^ expo of its format's smallest values.
-ghost use Rattle.std.specs.Prelude.{◌≡◌, ◌+◌, ◌*◌, ◌/◌, ◌^◌, ◌<◌};
-ghost use Rattle.std.specs.Float.{binary32, binary64};
-ghost use Rattle.float.specs.Fields.{sig, expo, val};
+ghost use Rattle.std.specs.Prelude.{◌≡◌, ◌+◌, ◌-◌, ◌*◌, ◌/◌, ◌^◌, ◌<◌};
+ghost use Rattle.std.specs.Float.{binary32};
+ghost use Rattle.float.specs.Fields.{digits, val};
 
-pub fn sig32(a: u32) -> u32
-    ensures { result ≡ sig binary32 a }
+// The digits of a magnitude, with the leading one, HID, where the exponent's field is not 0: HID is 2^23 for an f32, 2^52 for an f64.
+pub fn sig<const HID: u64>(a: u64) -> u64
+    requires hid_nonzero { 0 < HID }
+    requires hid_bound { HID < 2 ^ 63 }
+    ensures { result ≡ digits HID a }
 {
-    if a < 0x80_0000 {
-        a
-    } else {
-        0x80_0000 + a % 0x80_0000
-    }
+    if a < HID { a } else { HID + a % HID }
 }
 
-pub fn expo32(a: u32) -> u32
-    ensures { result ≡ expo binary32 a }
+// The exponent of a magnitude, which is 0 where its field is 0 or 1.
+pub fn expo<const HID: u64>(a: u64) -> u64
+    requires { 0 < HID }
+    ensures { result ≡ a / HID - 1 }
 {
-    let e = a / 0x80_0000;
-    if e == 0 { 0 } else { e - 1 }
-}
-
-pub fn sig64(a: u64) -> u64
-    ensures { result ≡ sig binary64 a }
-{
-    if a < 0x10_0000_0000_0000 {
-        a
-    } else {
-        0x10_0000_0000_0000 + a % 0x10_0000_0000_0000
-    }
-}
-
-pub fn expo64(a: u64) -> u64
-    ensures { result ≡ expo binary64 a }
-{
-    let e = a / 0x10_0000_0000_0000;
-    if e == 0 { 0 } else { e - 1 }
+    (a / HID).saturating_sub(1)
 }
 
 // The whole part of a magnitude below 2^32.

@@ -6,7 +6,7 @@ ghost use Rattle.std.specs.Float.Ieee.Nearest.{closest};
 ghost use Rattle.float.specs.Floats.{narrow_of};
 ghost use Rattle.float.specs.Fields.{val, round_mag};
 
-use super::magnitude::{expo64, sig64};
+use super::magnitude::{expo, sig};
 
 // m / 2 ^ d to the nearest whole number, a tie to the even one.
 fn nearest_shift(m: u64, d: u64) -> u64
@@ -24,8 +24,8 @@ fn narrow_mag(a: u64) -> u32
     requires { a < 2 ^ 63 }
     ensures { result ≡ round_mag binary32 (val binary64 a) (2 ^ 1074) }
 {
-    let m = sig64(a);
-    let e = expo64(a);
+    let m = sig::<0x10_0000_0000_0000>(a);
+    let e = expo::<0x10_0000_0000_0000>(a);
     if e < 896 {
         if e < 862 {
             return 0;

@@ -5,7 +5,7 @@ ghost use Rattle.std.specs.Float.{binary32};
 ghost use Rattle.float.specs.Floats.{sqrt_units, sqrt_of};
 ghost use Rattle.float.specs.Fields.{val};
 
-use super::magnitude::{expo32, sig32};
+use super::magnitude::{expo, sig};
 
 // ⌊√n⌋, a binary digit at a time.
 fn isqrt(n: u64) -> u64
@@ -29,11 +29,11 @@ fn sqrt_mag(a: u32) -> u32
     requires a_bound { a < 0x7f80_0000 }
     ensures { Ieee.of_bits binary32 result ≡ sqrt_units binary32 (val binary32 a * 2 ^ 149) }
 {
-    let m = sig32(a);
-    let z = u32::leading_zeros(m);
-    let t = expo32(a) + 132 - z;
-    let r = isqrt((m as u64) << (17 + z + t % 2));
-    (t / 2 + 1) * 0x80_0000 + ((r + 1) / 2) as u32
+    let m = sig::<0x80_0000>(a as u64);
+    let z = m.leading_zeros() as u64 - 32;
+    let t = expo::<0x80_0000>(a as u64) + 132 - z;
+    let r = isqrt(m << (17 + z + t % 2));
+    ((t / 2 + 1) * 0x80_0000 + (r + 1) / 2) as u32
 }
 
 pub fn sqrt_bits(b: u32) -> u32

@@ -3,6 +3,8 @@
 // cases were run and how many answers differ, and before that each line that differs with the answer given here.
 #![tactic(auto)]
 
+use float::Float;
+
 #[derive(Drop)]
 struct Tally {
     cases: u64,
@@ -17,11 +19,11 @@ fn hex(digits: &[u8]) -> u64 {
 
 // The f32 whose pattern is the input's upper or lower half.
 fn upper(n: u64) -> f32 {
-    float::of_bits32((n / 0x1_0000_0000) as u32)
+    f32::of_bits((n / 0x1_0000_0000) as u32)
 }
 
 fn lower(n: u64) -> f32 {
-    float::of_bits32((n % 0x1_0000_0000) as u32)
+    f32::of_bits((n % 0x1_0000_0000) as u32)
 }
 
 fn wide(x: f32) -> f64 {
@@ -29,7 +31,7 @@ fn wide(x: f32) -> f64 {
 }
 
 fn pattern(x: f32) -> u64 {
-    float::bits32(x) as u64
+    x.bits() as u64
 }
 
 // The pattern of n as an f64.
@@ -43,15 +45,15 @@ fn answer(f: u8, n: u64) -> u64 {
         b'1' => pattern(upper(n) / lower(n)),
         b'2' => float::bits64(wide(upper(n)) / wide(lower(n))),
         b'3' => float::bits64(wide(lower(n))),
-        b'4' => float::bits64(float::of_bits64(n) / 3.0),
-        b'5' => pattern(float::abs32(lower(n))),
-        b'6' => float::bits64(float::abs64(float::of_bits64(n))),
+        b'4' => float::bits64(f64::of_bits(n) / 3.0),
+        b'5' => pattern(Float::abs(lower(n))),
+        b'6' => float::bits64(Float::abs(f64::of_bits(n))),
         b'7' => pattern(float::max32(upper(n), lower(n))),
         b'8' => pattern(float::min32(upper(n), lower(n))),
         b'9' => float::to_u32(lower(n)) as u64,
         b'a' => whole(float::to_i32(lower(n))),
         b'b' => pattern(float::round32(lower(n))),
-        b'c' => pattern(float::narrow(float::of_bits64(n))),
+        b'c' => pattern(float::narrow(f64::of_bits(n))),
         _ => pattern(float::sqrt32(lower(n))),
     }
 }
