@@ -7,6 +7,7 @@ ghost use Rattle.finders.specs.Answer.{held_in};
 ghost use Rattle.finders.specs.Inner.{merged_of, Good};
 
 use crate::{Finders, no_finders};
+use float::Float;
 use geometry::Finder;
 
 // `full` where one finder more would be held than there are places; then the table is empty.
@@ -20,8 +21,8 @@ pub struct Merged {
 pub fn is_within(f: Finder, x: f32, y: f32) -> bool
     ensures { result ≡ within x y f }
 {
-    let dx = float::abs32(f.x - x);
-    let dy = float::abs32(f.y - y);
+    let dx = Float::abs(f.x - x);
+    let dy = Float::abs(f.y - y);
     (dx <= f.module) & (dy <= f.module)
 }
 

@@ -6,6 +6,7 @@ ghost use Rattle.little_endian.specs.Bytes.{put};
 ghost use Rattle.firmware.specs.Firmware.{finder_bytes, marker_bytes, transform_bytes, detection_bytes, firmware_bytes};
 
 use candidates::{Detection, Detections};
+use float::Float;
 use geometry::Finder;
 use little_endian::{put8, put32, put64};
 use transform::{Point, Transform};
@@ -17,9 +18,9 @@ fn put_finder(out: &mut [u8], at: u32, f: Finder)
     requires { at < 2 ^ 16 }
     ensures { out.new ≡ put (finder_bytes f) at out.old }
 {
-    put32(out, at, float::bits32(f.x));
-    put32(out, at + 4, float::bits32(f.y));
-    put32(out, at + 8, float::bits32(f.module));
+    put32(out, at, f.x.bits());
+    put32(out, at + 4, f.y.bits());
+    put32(out, at + 8, f.module.bits());
     put32(out, at + 12, f.confirmations);
 }
 
@@ -30,8 +31,8 @@ fn put_marker(out: &mut [u8], at: u32, m: Option<Point>)
     match m {
         Some(p) => {
             put8(out, at, 1);
-            put32(out, at + 1, float::bits32(p.x));
-            put32(out, at + 5, float::bits32(p.y));
+            put32(out, at + 1, p.x.bits());
+            put32(out, at + 5, p.y.bits());
         }
         None => {
             put8(out, at, 0);
@@ -46,7 +47,7 @@ fn put_transform(out: &mut [u8], at: u32, t: Transform)
     ensures { out.new ≡ put (transform_bytes t) at out.old }
 {
     for k in 0..8 {
-        put64(out, at + 8 * k as u32, float::bits64(t.m[k]));
+        put64(out, at + 8 * k as u32, t.m[k].bits());
     }
 }
 

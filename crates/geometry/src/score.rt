@@ -3,6 +3,7 @@ ghost use Rattle.std.specs.Prelude.{◌≡◌};
 ghost use Rattle.geometry.specs.Score.{mean_of, out_by_pitch, dot_of, corner_score, admissible_corners, score_of, admissible, answer};
 
 use super::{Corners, Finder, order_finders, span};
+use float::Float;
 
 // The mean of the modules.
 pub fn mean_module(a: Finder, b: Finder, c: Finder) -> f32
@@ -15,9 +16,9 @@ fn out_by_pitch(a: Finder, b: Finder, c: Finder) -> bool
     ensures { result ≡ out_by_pitch a b c }
 {
     let mean = mean_module(a, b, c);
-    let da = float::max32(0.0, float::abs32(a.module - mean));
-    let db = float::max32(da, float::abs32(b.module - mean));
-    let spread = float::max32(db, float::abs32(c.module - mean));
+    let da = float::max32(0.0, Float::abs(a.module - mean));
+    let db = float::max32(da, Float::abs(b.module - mean));
+    let spread = float::max32(db, Float::abs(c.module - mean));
     spread > mean * 0.5
 }
 
@@ -39,7 +40,7 @@ fn right_angle_score(f: Corners) -> Option<f32>
     if n2 < 1.0 {
         return None;
     }
-    let cos = float::abs32(dot(f) / (n1 * n2));
+    let cos = Float::abs(dot(f) / (n1 * n2));
     if cos > 0.7 {
         return None;
     }

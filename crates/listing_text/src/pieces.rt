@@ -4,6 +4,8 @@ ghost use Rattle.listing_text.specs.Text.{decimal_text, single_text, double_text
 ghost use Rattle.listing_text.specs.Inner.{Wrote};
 ghost use Rattle.listing_text.specs.Listing.{decimal_room, single_room, double_room};
 
+use float::Float;
+
 // A field, and the character that follows it; the place after both.
 pub fn put_field(text: &mut [u8], at: u32, field: &[u8], end: u8) -> u32
     requires { (at < 2 ^ 31) × (length field.now ≤ 20) }
@@ -34,7 +36,7 @@ pub fn put_single(text: &mut [u8], at: u32, x: f32, end: u8) -> u32
     ensures most { result ≤ at + single_room }
 {
     let mut digits = [0u8; 16];
-    let k = io::hex(float::bits32(x) as u64, 8, &mut digits);
+    let k = io::hex(x.bits() as u64, 8, &mut digits);
     put_field(text, at, &digits[..k], end)
 }
 
@@ -44,6 +46,6 @@ pub fn put_double(text: &mut [u8], at: u32, x: f64, end: u8) -> u32
     ensures most { result ≤ at + double_room }
 {
     let mut digits = [0u8; 16];
-    let k = io::hex(float::bits64(x), 16, &mut digits);
+    let k = io::hex(x.bits(), 16, &mut digits);
     put_field(text, at, &digits[..k], end)
 }

@@ -10,6 +10,8 @@ ghost use Rattle.float.specs.Steps.{over64};
 ghost use Rattle.math.specs.Solve.{Matrix, Vector, augmented, pivot_row, swapped, reduced, row_cleared, cleared, upper, singular, remainder, unknowns, eight, solution_of};
 ghost use Rattle.math.specs.Table.{entry, replaced, Holds};
 
+use float::Float;
+
 // The unknowns, with zeros beyond the n that there are, and all zeros where none is found.
 #[derive(Drop)]
 pub struct Solution {
@@ -43,8 +45,8 @@ fn put(t: &mut [f64], r: usize, k: usize, x: f64)
 fn larger(x: f64, y: f64) -> bool
     ensures { result ≡ lt (abs_of y) (abs_of x) }
 {
-    let a = float::abs64(x);
-    let b = float::abs64(y);
+    let a = Float::abs(x);
+    let b = Float::abs(y);
     a > b
 }
 
@@ -137,7 +139,7 @@ fn triangulate(t: &mut [f64], n: usize) -> bool
     while c < n {
         let p = pivot_row(t, n, c);
         swap_rows(t, n, c, p);
-        if float::abs64(at(t, c, c)) < 1e-12 {
+        if Float::abs(at(t, c, c)) < 1e-12 {
             return false;
         }
         eliminate(t, n, c);

@@ -7,31 +7,32 @@ ghost use Rattle.record.specs.Record.{float_at, double_at, doubles_at, point_at,
 use crate::slices::rest;
 use candidates::{Detection, Detections};
 use finders::{Finders, MAX_FINDERS};
+use float::Float;
 use geometry::{Corners, Finder};
 use transform::{Point, Transform};
 
 pub fn float_at(p: &[u8], at: u32) -> f32
     ensures { result ≡ float_at p.now at }
 {
-    float::of_bits32(little_endian::get32(p, at))
+    f32::of_bits(little_endian::get32(p, at))
 }
 
 pub fn double_at(p: &[u8], at: u32) -> f64
     ensures { result ≡ double_at p.now at }
 {
-    float::of_bits64(little_endian::get64(p, at))
+    f64::of_bits(little_endian::get64(p, at))
 }
 
 pub fn put_float(out: &mut [u8], at: u32, x: f32)
     ensures { out.new ≡ put (single_bytes x) at out.old }
 {
-    little_endian::put32(out, at, float::bits32(x));
+    little_endian::put32(out, at, x.bits());
 }
 
 pub fn put_double(out: &mut [u8], at: u32, x: f64)
     ensures { out.new ≡ put (double_bytes x) at out.old }
 {
-    little_endian::put64(out, at, float::bits64(x));
+    little_endian::put64(out, at, x.bits());
 }
 
 pub fn put_flag(out: &mut [u8], at: u32, b: bool)

@@ -6,7 +6,7 @@ ghost use Rattle.rows.specs.Rows.{near_one, matches_of, middle_of, column_runs, 
 use crate::window::{Window, least};
 use binary::dark;
 use binary::line::{run_back, run_on};
-use float::{abs32, to_u32};
+use float::{Float, to_u32};
 use transform::{Point, distance2};
 
 // A light, a dark and a light run, and the pixel at which the dark one starts.
@@ -22,7 +22,7 @@ pub struct Runs {
 fn near(n: u16, module: f32) -> bool
     ensures { result ≡ near_one «module» n }
 {
-    abs32(n as f32 - module) <= module * 0.7
+    Float::abs(n as f32 - module) <= module * 0.7
 }
 
 impl Runs {

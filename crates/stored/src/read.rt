@@ -6,6 +6,7 @@ ghost use Rattle.finders.specs.Answer.{table_of};
 ghost use Rattle.stored.specs.Stored.{finder_at};
 
 use finders::{Finders, no_finders};
+use float::Float;
 use geometry::Finder;
 use little_endian::get32;
 
@@ -17,9 +18,9 @@ fn finder_at(bytes: &[u8], count: u32, k: u32) -> Finder
     let places = 6 + 8 * k;
     let sizes = 6 + 8 * count + 8 * k;
     Finder {
-        x: float::of_bits32(get32(bytes, places)),
-        y: float::of_bits32(get32(bytes, places + 4)),
-        module: float::of_bits32(get32(bytes, sizes)),
+        x: f32::of_bits(get32(bytes, places)),
+        y: f32::of_bits(get32(bytes, places + 4)),
+        module: f32::of_bits(get32(bytes, sizes)),
         confirmations: get32(bytes, sizes + 4),
     }
 }

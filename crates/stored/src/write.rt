@@ -7,6 +7,7 @@ ghost use Rattle.finders.specs.Answer.{held_in};
 ghost use Rattle.stored.specs.Stored.{head_bytes, place_bytes, size_bytes, size_of, stored_bytes};
 
 use finders::Finders;
+use float::Float;
 use little_endian::{put8, put16, put32};
 
 fn put_head(out: &mut [u8], width: u16, height: u16, count: u8)
@@ -32,12 +33,7 @@ fn put_places(out: &mut [u8], t: Finders)
 {
     for k in 0..t.count {
         let f = t.table[k];
-        put_pair(
-            out,
-            6 + 8 * k as u32,
-            float::bits32(f.x),
-            float::bits32(f.y),
-        );
+        put_pair(out, 6 + 8 * k as u32, f.x.bits(), f.y.bits());
     }
 }
 
@@ -50,7 +46,7 @@ fn put_sizes(out: &mut [u8], t: Finders)
         put_pair(
             out,
             6 + 8 * t.count as u32 + 8 * k as u32,
-            float::bits32(f.module),
+            f.module.bits(),
             f.confirmations,
         );
     }

@@ -6,6 +6,8 @@ ghost use Rattle.std.proofs.Math.Seq.{paste as pasted};
 ghost use Rattle.transform.specs.Fit.{plain, zero_transform, identity_transform, widened, homography_rows, affine_rows, fit_of, quad_fit, triangle_fit};
 ghost use Rattle.transform.specs.Apply.{linear_of, apart_of, projected, narrowed, placed, offset_of, divided, bent, applied, with_radial, center_of, distance2_of, distance_of, pitch_at, pitches_of};
 
+use float::Float;
+
 #[derive(Clone, Copy)]
 pub struct Point {
     pub x: f32,
@@ -326,7 +328,7 @@ fn linear(a: f64, b: f64, c: f64, p: Wide) -> f64
 fn apart(w: f64) -> f64
     ensures { result ≡ apart_of w }
 {
-    if float::abs64(w) < 1e-9 { 1e-9 } else { w }
+    if Float::abs(w) < 1e-9 { 1e-9 } else { w }
 }
 
 // The squared distance.

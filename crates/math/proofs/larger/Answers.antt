@@ -2,4 +2,4 @@
 use Rattle.math.proofs.larger.Goals as goal
 
 pub returns : goal.returns
-returns c = cc (c.abs64-a.ensures, c.abs64-b.ensures)
+returns c = cc (c.abs-a.ensures, c.abs-b.ensures)

@@ -2,8 +2,8 @@
 use Rattle.transform.proofs.Laws.{apart_is}
 use Rattle.transform.proofs.apart.Goals as goal
 
-pub returns-then-abs64 : goal.returns-then-abs64
-returns-then-abs64 c = apart_is _ _ _ c.abs64.ensures c.if-abs64.true
+pub returns-then-abs : goal.returns-then-abs
+returns-then-abs c = apart_is _ _ _ c.abs.ensures c.if-abs.true
 
-pub returns-else-abs64 : goal.returns-else-abs64
-returns-else-abs64 c = apart_is _ _ _ c.abs64.ensures c.if-abs64.false
+pub returns-else-abs : goal.returns-else-abs
+returns-else-abs c = apart_is _ _ _ c.abs.ensures c.if-abs.false

@@ -2,4 +2,4 @@
 use Rattle.finders.proofs.held.is_within.Goals as goal
 
 pub returns : goal.returns
-returns c = rw (c.abs32-dx.ensures, c.abs32-dy.ensures)
+returns c = rw (c.abs-dx.ensures, c.abs-dy.ensures)

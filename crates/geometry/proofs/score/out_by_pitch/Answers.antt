@@ -6,4 +6,4 @@ pub returns : goal.returns
 unfolding out_by_pitch away_from
 returns c =
     let mean = c.mean_module-mean.ensures in
-    rw (c.max32-spread.ensures, c.abs32-3.ensures, c.max32-db.ensures, c.abs32-2.ensures, c.max32-da.ensures, c.abs32.ensures, mean)
+    rw (c.max32-spread.ensures, c.abs-3.ensures, c.max32-db.ensures, c.abs-2.ensures, c.max32-da.ensures, c.abs.ensures, mean)

@@ -4,4 +4,4 @@ use Rattle.rows.proofs.search.near.Goals as goal
 
 pub returns : goal.returns
 unfolding near_one
-returns c = rw c.abs32.ensures
+returns c = rw c.abs.ensures

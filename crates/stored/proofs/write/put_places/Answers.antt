@@ -23,4 +23,4 @@ loop-k-preserved c =
     let s = (goal.at.loop-k-preserved c).Start in
     let t = s.args.t in
     let l = c.loop-k in
-    c.put_pair.ensures ∙ rw (c.bits32-in-loop-k.ensures, c.bits32.ensures) (piece_more place_bytes 8 length-place t.table 6 l.k _ s.args.out.now l.out (omega (arith, long (goal.at.loop-k-preserved c).Start, s.requires)) l.invariant)
+    c.put_pair.ensures ∙ rw (c.bits-in-loop-k.ensures.value, c.bits.ensures.value) (piece_more place_bytes 8 length-place t.table 6 l.k _ s.args.out.now l.out (omega (arith, long (goal.at.loop-k-preserved c).Start, s.requires)) l.invariant)

@@ -24,4 +24,4 @@ loop-k-preserved c =
     let s = (goal.at.loop-k-preserved c).Start in
     let t = s.args.t in
     let l = c.loop-k in
-    c.put_pair.ensures ∙ rw c.bits32.ensures (piece_more size_bytes 8 length_size t.table (6 + 8 * t.count) l.k _ s.args.out.now l.out (omega (arith, long (goal.at.loop-k-preserved c).Start, s.requires)) l.invariant)
+    c.put_pair.ensures ∙ rw c.bits.ensures.value (piece_more size_bytes 8 length_size t.table (6 + 8 * t.count) l.k _ s.args.out.now l.out (omega (arith, long (goal.at.loop-k-preserved c).Start, s.requires)) l.invariant)
