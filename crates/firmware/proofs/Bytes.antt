@@ -10,6 +10,7 @@ use lib.Ieee.{Float, nan, binary32, binary64, to_bits}
 use Rattle.lists.specs.Lists.{flat_map}
 use Rattle.lists.proofs.Tabulate.{length-tabulate, get_d_tabulate}
 use Rattle.little_endian.specs.Bytes.{bytes_le, put}
+use Rattle.little_endian.proofs.One.{put_one}
 use Rattle.little_endian.proofs.Pieces.{put_then, length_flat, piece_more}
 use Rattle.little_endian.proofs.Round.{length_bytes}
 use Rattle.transform.specs.declared.Transform.{Transform}
@@ -65,16 +66,16 @@ finder_is f i l =
     ∙ put_then 4 y (m ++ n) (i + 4) (i + 8) (put x i l) (length_single (to_bits binary32 f.y)) (omega arith)
     ∙ put_then 4 x (y ++ (m ++ n)) i (i + 4) l (length_single (to_bits binary32 f.x)) refl
 
-pub flagged_is : (b x y i : ℕ) (l : List ℕ) → put (bytes_le 4 y) (i + 5) (put (bytes_le 4 x) (i + 1) (set l i b)) ≡ put (b ∷ (bytes_le 4 x ++ bytes_le 4 y)) i l
+pub flagged_is : (b x y i : ℕ) (l : List ℕ) → b < 256 → put (bytes_le 4 y) (i + 5) (put (bytes_le 4 x) (i + 1) (put (bytes_le 1 b) i l)) ≡ put (b ∷ (bytes_le 4 x ++ bytes_le 4 y)) i l
 unfolding put
-flagged_is b x y i l = put_then 4 (bytes_le 4 x) (bytes_le 4 y) (i + 1) (i + 5) (set l i b) (length_single x) (omega arith)
+flagged_is b x y i l h = rw (put_one b i l h) (put_then 4 (bytes_le 4 x) (bytes_le 4 y) (i + 1) (i + 5) (set l i b) (length_single x) (omega arith))
 
 -- what is written of a detection, from its parts
-pub detection_is : (d : Detection) (i : ℕ) (l : List ℕ)
-    → put (transform_bytes d.transform) (i + 58) (put (marker_bytes d.marker) (i + 49) (set (put (finder_bytes d.finders.bl) (i + 32) (put (finder_bytes d.finders.tr) (i + 16) (put (finder_bytes d.finders.tl) i l))) (i + 48) d.version.0))
+pub detection_is : (d : Detection) (i : ℕ) (l : List ℕ) → d.version.0 < 256
+    → put (transform_bytes d.transform) (i + 58) (put (marker_bytes d.marker) (i + 49) (put (bytes_le 1 d.version.0) (i + 48) (put (finder_bytes d.finders.bl) (i + 32) (put (finder_bytes d.finders.tr) (i + 16) (put (finder_bytes d.finders.tl) i l)))))
     ≡ put (detection_bytes d) i l
 unfolding detection_bytes put
-detection_is d i l =
+detection_is d i l h =
     let a = finder_bytes d.finders.tl in
     let b = finder_bytes d.finders.tr in
     let c = finder_bytes d.finders.bl in
@@ -82,7 +83,8 @@ detection_is d i l =
     let m = marker_bytes d.marker in
     let t = transform_bytes d.transform in
     let l3 = put c (i + 32) (put b (i + 16) (put a i l)) in
-    put_then 9 m t (i + 49) (i + 58) (put v (i + 48) l3) (length_marker d.marker) (omega arith)
+    ap (λ z. put t (i + 58) (put m (i + 49) z)) (put_one d.version.0 (i + 48) l3 h)
+    ∙ put_then 9 m t (i + 49) (i + 58) (put v (i + 48) l3) (length_marker d.marker) (omega arith)
     ∙ put_then 1 v (m ++ t) (i + 48) (i + 49) l3 refl (omega arith)
     ∙ put_then 16 c (v ++ (m ++ t)) (i + 32) (i + 48) (put b (i + 16) (put a i l)) (length_finder d.finders.bl) (omega arith)
     ∙ put_then 16 b (c ++ (v ++ (m ++ t))) (i + 16) (i + 32) (put a i l) (length_finder d.finders.tr) (omega arith)
@@ -114,6 +116,8 @@ all_numbers t k base l e = ap (λ z. put (flat_map double_bytes z) base l) (take
 
 -- ---- the whole table
 pub whole_is : (t : Detections) (k : ℕ) (l : List ℕ) → length t.at ≡ 3 → k ≡ 3
-    → put (flat_map detection_bytes (take k t.at)) 1 (set l 0 (t.count % 256)) ≡ put (firmware_bytes t) 0 l
+    → put (flat_map detection_bytes (take k t.at)) 1 (put (bytes_le 1 (t.count % 256)) 0 l) ≡ put (firmware_bytes t) 0 l
 unfolding firmware_bytes bytes_le put
-whole_is t k l n e = ap (λ z. put (flat_map detection_bytes z) 1 (set l 0 (t.count % 256))) (take_all k t.at (omega arith))
+whole_is t k l n e =
+    let m : t.count % 256 % 256 ≡ t.count % 256 = omega arith in
+    rw m (ap (λ z. put (flat_map detection_bytes z) 1 (set l 0 (t.count % 256))) (take_all k t.at (omega arith)))

@@ -8,7 +8,7 @@ ghost use Rattle.firmware.specs.Firmware.{finder_bytes, marker_bytes, transform_
 use candidates::{Detection, Detections};
 use float::Float;
 use geometry::Finder;
-use little_endian::{put8, put32, put64};
+use little_endian::put;
 use transform::{Point, Transform};
 
 // The bytes that the detections take.
@@ -18,10 +18,10 @@ fn put_finder(out: &mut [u8], at: u32, f: Finder)
     requires { at < 2 ^ 16 }
     ensures { out.new ≡ put (finder_bytes f) at out.old }
 {
-    put32(out, at, f.x.bits());
-    put32(out, at + 4, f.y.bits());
-    put32(out, at + 8, f.module.bits());
-    put32(out, at + 12, f.confirmations);
+    put::<u32>(out, at, f.x.bits());
+    put::<u32>(out, at + 4, f.y.bits());
+    put::<u32>(out, at + 8, f.module.bits());
+    put::<u32>(out, at + 12, f.confirmations);
 }
 
 fn put_marker(out: &mut [u8], at: u32, m: Option<Point>)
@@ -30,14 +30,14 @@ fn put_marker(out: &mut [u8], at: u32, m: Option<Point>)
 {
     match m {
         Some(p) => {
-            put8(out, at, 1);
-            put32(out, at + 1, p.x.bits());
-            put32(out, at + 5, p.y.bits());
+            put::<u8>(out, at, 1);
+            put::<u32>(out, at + 1, p.x.bits());
+            put::<u32>(out, at + 5, p.y.bits());
         }
         None => {
-            put8(out, at, 0);
-            put32(out, at + 1, 0);
-            put32(out, at + 5, 0);
+            put::<u8>(out, at, 0);
+            put::<u32>(out, at + 1, 0);
+            put::<u32>(out, at + 5, 0);
         }
     }
 }
@@ -47,7 +47,7 @@ fn put_transform(out: &mut [u8], at: u32, t: Transform)
     ensures { out.new ≡ put (transform_bytes t) at out.old }
 {
     for k in 0..8 {
-        put64(out, at + 8 * k as u32, t.m[k].bits());
+        put::<u64>(out, at + 8 * k as u32, t.m[k].bits());
     }
 }
 
@@ -59,8 +59,7 @@ fn put_detection(out: &mut [u8], at: u32, d: Detection)
     put_finder(out, at, c.tl);
     put_finder(out, at + 16, c.tr);
     put_finder(out, at + 32, c.bl);
-    let v = d.version;
-    put8(out, at + 48, v.0);
+    put::<u8>(out, at + 48, d.version.get());
     let m = d.marker;
     put_marker(out, at + 49, m);
     let t = d.transform;
@@ -71,7 +70,7 @@ fn put_detection(out: &mut [u8], at: u32, d: Detection)
 pub fn put_detections(out: &mut [u8], t: Detections)
     ensures { out.new ≡ put (firmware_bytes t) 0 out.old }
 {
-    put8(out, 0, (t.count % 256) as u8);
+    put::<u8>(out, 0, (t.count % 256) as u8);
     for k in 0..3 {
         let d = t.at[k];
         put_detection(out, 1 + 122 * k as u32, d);

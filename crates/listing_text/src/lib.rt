@@ -30,8 +30,8 @@ fn check_input(input: &[u8]) -> Result<(), Refusal>
     if input.len() < 4 {
         return Err(Refusal::ShortPicture);
     }
-    let width = little_endian::get16(input, 0) as u32;
-    let height = little_endian::get16(input, 2) as u32;
+    let width = little_endian::get::<u16>(input, 0) as u32;
+    let height = little_endian::get::<u16>(input, 2) as u32;
     check_sides(width, height)?;
     let pixels = area(width, height);
     if 40000 < pixels {
@@ -100,8 +100,8 @@ fn put_listing(input: &[u8], text: &mut [u8]) -> u32
     if refusal != 0 {
         return put_refusal(text, refusal);
     }
-    let width = little_endian::get16(input, 0) as u32;
-    let height = little_endian::get16(input, 2) as u32;
+    let width = little_endian::get::<u16>(input, 0) as u32;
+    let height = little_endian::get::<u16>(input, 2) as u32;
     put_picture(&input[4..], width, height, text)
 }
 

@@ -13,10 +13,10 @@ pub fn put_field(text: &mut [u8], at: u32, field: &[u8], end: u8) -> u32
 {
     let mut i = 0;
     while i < field.len() {
-        little_endian::put8(text, at + i as u32, field[i]);
+        little_endian::put::<u8>(text, at + i as u32, field[i]);
         i += 1;
     }
-    little_endian::put8(text, at + i as u32, end);
+    little_endian::put::<u8>(text, at + i as u32, end);
     at + i as u32 + 1
 }
 

@@ -1,3 +1,4 @@
-pub mod Halves
+pub mod One
 pub mod Pieces
 pub mod Round
+pub mod Steps

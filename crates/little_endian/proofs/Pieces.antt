@@ -1,14 +1,19 @@
 -- Pieces of bytes put one after the other. Assumes nothing.
 use mathlib.Core.Path.{◌≡◌, refl, sym, ap, ◌∙◌}
 use mathlib.Core.List.{List, [], ◌∷◌, ◌++◌}
-use Prim.Native.Nat.{ℕ, ◌+◌, ◌*◌, ◌≤◌, ◌<◌}
+use Prim.Native.Nat.{ℕ, suc, ◌+◌, ◌*◌, ◌≤◌, ◌<◌}
+use native.Mathlib.Nat.{add-zero}
 use native.Mathlib.Omega.{arith}
-use lib.ListN.{length, take, get_or, length-append}
+use lib.ListN.{length, take, get_or, set, length-append}
 use lib.Seq.{length-take-le}
 use Rattle.lists.specs.Lists.{flat_map}
 use Rattle.lists.proofs.Folds.{flat_map-take}
 use Rattle.little_endian.specs.Bytes.{put}
-use Rattle.little_endian.proofs.Halves.{put-append}
+
+pub put-append : (xs ys : List ℕ) (i : ℕ) (l : List ℕ) → put (xs ++ ys) i l ≡ put ys (i + length xs) (put xs i l)
+unfolding put
+put-append [] ys i l = rw add-zero
+put-append (x ∷ xs) ys i l = put-append xs ys (i + 1) (set l i x) ∙ ap (λ (k : ℕ). put ys k (put xs (i + 1) (set l i x))) (let e : i + 1 + length xs ≡ i + suc (length xs) = omega arith in e)
 
 -- the second where the first ends
 pub put_then : (n : ℕ) (xs ys : List ℕ) (i j : ℕ) (l : List ℕ) → length xs ≡ n → j ≡ i + n → put ys j (put xs i l) ≡ put (xs ++ ys) i l

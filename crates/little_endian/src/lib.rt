@@ -4,55 +4,42 @@
 ghost use Rattle.std.specs.Prelude.{◌≡◌, get_or, set};
 ghost use Rattle.little_endian.specs.Bytes.{bytes_le, read_le, put};
 
-mod parts;
+mod unsigned;
 
-pub fn get8(s: &[u8], at: u32) -> u8
+pub use unsigned::Unsigned;
+
+fn byte(s: &[u8], at: usize) -> u8
     ensures { result ≡ get_or s.now at 0 }
 {
-    parts::get_one(s, at as u64)
+    s.get(at).copied().unwrap_or(0)
 }
 
-pub fn get16(s: &[u8], at: u32) -> u16
-    ensures { result ≡ read_le 2 s.now at }
-{
-    parts::get_two(s, at as u64)
-}
-
-pub fn get32(s: &[u8], at: u32) -> u32
-    ensures { result ≡ read_le 4 s.now at }
-{
-    parts::get_four(s, at as u64)
-}
-
-pub fn get64(s: &[u8], at: u32) -> u64
-    ensures { result ≡ read_le 8 s.now at }
-{
-    let low = parts::get_four(s, at as u64);
-    let high = parts::get_four(s, at as u64 + 4);
-    low as u64 + 4294967296 * high as u64
-}
-
-pub fn put8(s: &mut [u8], at: u32, b: u8)
+fn set_byte(s: &mut [u8], at: usize, b: u8)
     ensures { s.new ≡ set s.old at b }
 {
-    parts::put_one(s, at as u64, b);
+    if at < s.len() {
+        s[at] = b;
+    }
 }
 
-pub fn put16(s: &mut [u8], at: u32, v: u16)
-    ensures { s.new ≡ put (bytes_le 2 v) at s.old }
+// The number at a place, its highest byte taken first.
+pub fn get<T: Unsigned>(s: &[u8], at: u32) -> T
+    ensures { T.value result ≡ read_le T.SIZE s.now at }
 {
-    parts::put_two(s, at as u64, v);
+    let mut n = 0;
+    for k in (0..T::SIZE).rev() {
+        n = 256 * n + byte(s, at as usize + k) as u64;
+    }
+    T::from_u64(n)
 }
 
-pub fn put32(s: &mut [u8], at: u32, v: u32)
-    ensures { s.new ≡ put (bytes_le 4 v) at s.old }
+// Writes a number at a place, its lowest byte first.
+pub fn put<T: Unsigned>(s: &mut [u8], at: u32, v: T)
+    ensures { s.new ≡ put (bytes_le T.SIZE (T.value v)) at s.old }
 {
-    parts::put_four(s, at as u64, v);
-}
-
-pub fn put64(s: &mut [u8], at: u32, v: u64)
-    ensures { s.new ≡ put (bytes_le 8 v) at s.old }
-{
-    parts::put_four(s, at as u64, (v % 4294967296) as u32);
-    parts::put_four(s, at as u64 + 4, (v / 4294967296) as u32);
+    let mut rest = v.to_u64();
+    for k in 0..T::SIZE {
+        set_byte(s, at as usize + k, (rest % 256) as u8);
+        rest /= 256;
+    }
 }

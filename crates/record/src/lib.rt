@@ -101,7 +101,7 @@ pub fn read(payload: &mut [u8]) -> Call
     if io::read_full(0, &mut head) < 5 {
         return no_call();
     }
-    let len = little_endian::get32(&head, 1) as usize;
+    let len = little_endian::get::<u32>(&head, 1) as usize;
     if payload.len() < len {
         return no_call();
     }

@@ -31,7 +31,7 @@ pub fn rest(s: &[u8], n: usize) -> &[u8]
 fn length_at(p: &[u8], at: u32) -> usize
     ensures { result ≡ length_at p.now at }
 {
-    little_endian::get32(p, at) as usize
+    little_endian::get::<u32>(p, at) as usize
 }
 
 // Whether the lengths of so many lent slices, from a place of a record on, have room.
@@ -88,8 +88,8 @@ fn put_slice(out: &mut [u8], at: u32, s: &[u8])
     requires { at < 2 ^ 17 }
     ensures { out.new ≡ put (slice_bytes s.now) at out.old }
 {
-    little_endian::put32(out, at, (s.len() % 4294967296) as u32);
-    little_endian::put64(out, at + 4, hash(s));
+    little_endian::put::<u32>(out, at, (s.len() % 4294967296) as u32);
+    little_endian::put::<u64>(out, at + 4, hash(s));
 }
 
 // The same of as many bytes of an array as stand in a record.

@@ -14,34 +14,34 @@ use transform::{Point, Transform};
 pub fn float_at(p: &[u8], at: u32) -> f32
     ensures { result ≡ float_at p.now at }
 {
-    f32::of_bits(little_endian::get32(p, at))
+    f32::of_bits(little_endian::get::<u32>(p, at))
 }
 
 pub fn double_at(p: &[u8], at: u32) -> f64
     ensures { result ≡ double_at p.now at }
 {
-    f64::of_bits(little_endian::get64(p, at))
+    f64::of_bits(little_endian::get::<u64>(p, at))
 }
 
 pub fn put_float(out: &mut [u8], at: u32, x: f32)
     ensures { out.new ≡ put (single_bytes x) at out.old }
 {
-    little_endian::put32(out, at, x.bits());
+    little_endian::put::<u32>(out, at, x.bits());
 }
 
 pub fn put_double(out: &mut [u8], at: u32, x: f64)
     ensures { out.new ≡ put (double_bytes x) at out.old }
 {
-    little_endian::put64(out, at, x.bits());
+    little_endian::put::<u64>(out, at, x.bits());
 }
 
 pub fn put_flag(out: &mut [u8], at: u32, b: bool)
     ensures { out.new ≡ slice_set out.old at (flag b) }
 {
     if b {
-        little_endian::put8(out, at, 1);
+        little_endian::put::<u8>(out, at, 1);
     } else {
-        little_endian::put8(out, at, 0);
+        little_endian::put::<u8>(out, at, 0);
     }
 }
 
@@ -125,7 +125,7 @@ pub fn finder_at(p: &[u8], at: u16) -> Finder
         x: float_at(p, i),
         y: float_at(p, i + 4),
         module: float_at(p, i + 8),
-        confirmations: little_endian::get32(p, i + 12),
+        confirmations: little_endian::get::<u32>(p, i + 12),
     }
 }
 
@@ -136,7 +136,7 @@ pub fn put_finder(out: &mut [u8], at: u16, f: Finder)
     put_float(out, i, f.x);
     put_float(out, i + 4, f.y);
     put_float(out, i + 8, f.module);
-    little_endian::put32(out, i + 12, f.confirmations);
+    little_endian::put::<u32>(out, i + 12, f.confirmations);
 }
 
 pub fn corners_at(p: &[u8], at: u8) -> Corners
@@ -168,7 +168,7 @@ pub fn put_finders(out: &mut [u8], at: u8, t: Finders) -> usize
     ensures next { result ≡ at + length (finders_bytes t) }
 {
     let held = &t.table[..t.count.min(MAX_FINDERS)];
-    little_endian::put8(out, at as u32, (t.count % 256) as u8);
+    little_endian::put::<u8>(out, at as u32, (t.count % 256) as u8);
     for (i, f) in held.iter().enumerate() {
         put_finder(out, at as u16 + 1 + 16 * i as u16, *f);
     }
@@ -206,7 +206,7 @@ pub fn put_detections(out: &mut [u8], refusal: u8, t: Detections) -> usize
     ensures bytes { out.new ≡ put (grades_bytes t) (grades_at t) (put (detections_bytes refusal t) 0 out.old) }
     ensures next { result ≡ grades_at t + 24 }
 {
-    little_endian::put8(out, 0, refusal);
+    little_endian::put::<u8>(out, 0, refusal);
     put_table(out, t);
     let at = 2 + 122 * (t.count % 4);
     put_grades(out, at as u16, t);

@@ -4,21 +4,21 @@ use lcr_core::version::Version;
 use record::values;
 
 fn version(function: u8, p: &[u8], out: &mut [u8]) -> usize {
-    match Version::new(little_endian::get8(p, 0)) {
+    match Version::new(little_endian::get::<u8>(p, 0)) {
         Ok(v) => {
             if function == 1 {
-                little_endian::put8(out, 1, v.get());
+                little_endian::put::<u8>(out, 1, v.get());
                 return 2;
             }
             if function == 2 {
-                little_endian::put16(out, 1, v.side());
+                little_endian::put::<u16>(out, 1, v.side());
                 return 3;
             }
-            little_endian::put32(out, 1, (v.modules() % 4294967296) as u32);
+            little_endian::put::<u32>(out, 1, (v.modules() % 4294967296) as u32);
             5
         }
         Err(_) => {
-            little_endian::put8(out, 0, 7);
+            little_endian::put::<u8>(out, 0, 7);
             if function == 1 {
                 return 2;
             }
@@ -31,10 +31,10 @@ fn version(function: u8, p: &[u8], out: &mut [u8]) -> usize {
 }
 
 fn from_side(p: &[u8], out: &mut [u8]) -> usize {
-    match Version::from_side(little_endian::get16(p, 0)) {
+    match Version::from_side(little_endian::get::<u16>(p, 0)) {
         Some(v) => {
-            little_endian::put8(out, 0, 1);
-            little_endian::put8(out, 1, v.get());
+            little_endian::put::<u8>(out, 0, 1);
+            little_endian::put::<u8>(out, 1, v.get());
         }
         None => {}
     }
@@ -43,16 +43,16 @@ fn from_side(p: &[u8], out: &mut [u8]) -> usize {
 
 fn colour(p: &[u8]) -> Srgb8 {
     Srgb8::new(
-        little_endian::get8(p, 0),
-        little_endian::get8(p, 1),
-        little_endian::get8(p, 2),
+        little_endian::get::<u8>(p, 0),
+        little_endian::get::<u8>(p, 1),
+        little_endian::get::<u8>(p, 2),
     )
 }
 
 fn put_colour(out: &mut [u8], c: Srgb8) -> usize {
-    little_endian::put8(out, 0, c.r);
-    little_endian::put8(out, 1, c.g);
-    little_endian::put8(out, 2, c.b);
+    little_endian::put::<u8>(out, 0, c.r);
+    little_endian::put::<u8>(out, 1, c.g);
+    little_endian::put::<u8>(out, 2, c.b);
     3
 }
 
@@ -61,9 +61,9 @@ pub fn answer(function: u8, p: &[u8], out: &mut [u8]) -> usize {
         1 | 2 | 3 => version(function, p, out),
         4 => from_side(p, out),
         5 => put_colour(out, colour(p)),
-        6 => put_colour(out, Srgb8::from_hex(little_endian::get32(p, 0))),
+        6 => put_colour(out, Srgb8::from_hex(little_endian::get::<u32>(p, 0))),
         7 => {
-            little_endian::put32(out, 0, colour(p).to_hex());
+            little_endian::put::<u32>(out, 0, colour(p).to_hex());
             4
         }
         8 => {

@@ -6,19 +6,19 @@ use record::{slices, values};
 fn find_finders(p: &[u8], out: &mut [u8]) -> usize {
     let r = finders::find_finders(
         slices::rest(p, 8),
-        little_endian::get32(p, 0),
-        little_endian::get32(p, 4),
+        little_endian::get::<u32>(p, 0),
+        little_endian::get::<u32>(p, 4),
     );
-    little_endian::put8(out, 0, r.refusal);
+    little_endian::put::<u8>(out, 0, r.refusal);
     let t = r.finders;
     values::put_finders(out, 1, t)
 }
 
 fn read_list(p: &[u8], out: &mut [u8]) -> usize {
     let r = stored::read_list(p);
-    little_endian::put8(out, 0, r.refusal);
-    little_endian::put32(out, 1, r.width as u32);
-    little_endian::put32(out, 5, r.height as u32);
+    little_endian::put::<u8>(out, 0, r.refusal);
+    little_endian::put::<u32>(out, 1, r.width as u32);
+    little_endian::put::<u32>(out, 5, r.height as u32);
     let t = r.finders;
     values::put_finders(out, 9, t)
 }
@@ -29,26 +29,26 @@ fn write_list(p: &[u8], out: &mut [u8]) -> usize {
     }
     let mut list = [0u8; slices::LONGEST];
     let r = stored::write_list(
-        values::finders_at(p, 16, little_endian::get32(p, 12)),
-        little_endian::get32(p, 0),
-        little_endian::get32(p, 4),
+        values::finders_at(p, 16, little_endian::get::<u32>(p, 12)),
+        little_endian::get::<u32>(p, 0),
+        little_endian::get::<u32>(p, 4),
         slices::lent(&mut list, p, 8),
     );
-    little_endian::put8(out, 0, r.refusal);
+    little_endian::put::<u8>(out, 0, r.refusal);
     slices::put_lent(out, 1, &list, p, 8);
     13
 }
 
 fn matches_finder(p: &[u8], out: &mut [u8]) -> usize {
     match ratio::matches_finder(
-        little_endian::get16(p, 0),
-        little_endian::get16(p, 2),
-        little_endian::get16(p, 4),
-        little_endian::get16(p, 6),
-        little_endian::get16(p, 8),
+        little_endian::get::<u16>(p, 0),
+        little_endian::get::<u16>(p, 2),
+        little_endian::get::<u16>(p, 4),
+        little_endian::get::<u16>(p, 6),
+        little_endian::get::<u16>(p, 8),
     ) {
         Some(module) => {
-            little_endian::put8(out, 0, 1);
+            little_endian::put::<u8>(out, 0, 1);
             values::put_float(out, 1, module);
         }
         None => {}
@@ -59,23 +59,23 @@ fn matches_finder(p: &[u8], out: &mut [u8]) -> usize {
 // The run forwards from a pixel, or the one backwards before it, of a line that starts with the rest's first pixel.
 fn limited_run(p: &[u8]) -> Run {
     let bits = slices::rest(p, 10);
-    let from = little_endian::get16(p, 2);
-    let limit = little_endian::get32(p, 4) as u64;
-    let want = little_endian::get8(p, 9) == 1;
-    if little_endian::get8(p, 8) == 1 {
+    let from = little_endian::get::<u16>(p, 2);
+    let limit = little_endian::get::<u32>(p, 4) as u64;
+    let want = little_endian::get::<u8>(p, 9) == 1;
+    if little_endian::get::<u8>(p, 8) == 1 {
         return line::limited_back(bits, 0, 1, from, limit, want);
     }
-    line::limited_on(bits, 0, 1, little_endian::get16(p, 0), from, limit, want)
+    line::limited_on(bits, 0, 1, little_endian::get::<u16>(p, 0), from, limit, want)
 }
 
 fn run_end(p: &[u8], out: &mut [u8]) -> usize {
     let r = limited_run(p);
-    little_endian::put16(out, 0, r.count);
+    little_endian::put::<u16>(out, 0, r.count);
     let end = r.end;
     match end {
-        End::Change => little_endian::put8(out, 2, 0),
-        End::Edge => little_endian::put8(out, 2, 1),
-        End::Limit => little_endian::put8(out, 2, 2),
+        End::Change => little_endian::put::<u8>(out, 2, 0),
+        End::Edge => little_endian::put::<u8>(out, 2, 1),
+        End::Limit => little_endian::put::<u8>(out, 2, 2),
     }
     3
 }

@@ -71,7 +71,7 @@ fn module_center(p: &[u8], out: &mut [u8]) -> usize {
     values::put_point(
         out,
         0,
-        t.module_center(little_endian::get16(p, 88), little_endian::get16(p, 90)),
+        t.module_center(little_endian::get::<u16>(p, 88), little_endian::get::<u16>(p, 90)),
     );
     8
 }
@@ -81,14 +81,14 @@ fn local_pitch(p: &[u8], out: &mut [u8]) -> usize {
     values::put_float(
         out,
         0,
-        t.local_pitch(little_endian::get16(p, 88), little_endian::get16(p, 90)),
+        t.local_pitch(little_endian::get::<u16>(p, 88), little_endian::get::<u16>(p, 90)),
     );
     4
 }
 
 fn pitch_range(p: &[u8], out: &mut [u8]) -> usize {
     let t = values::lens_at(p, 0);
-    let r = t.pitch_range(little_endian::get16(p, 88));
+    let r = t.pitch_range(little_endian::get::<u16>(p, 88));
     values::put_float(out, 0, r.least);
     values::put_float(out, 4, r.greatest);
     8
@@ -106,8 +106,8 @@ fn order_finders(p: &[u8], out: &mut [u8]) -> usize {
 fn estimate_version(p: &[u8], out: &mut [u8]) -> usize {
     match geometry::estimate_version(values::corners_at(p, 0)) {
         Some(v) => {
-            little_endian::put8(out, 0, 1);
-            little_endian::put8(out, 1, v.get());
+            little_endian::put::<u8>(out, 0, 1);
+            little_endian::put::<u8>(out, 1, v.get());
         }
         None => {}
     }
@@ -115,16 +115,16 @@ fn estimate_version(p: &[u8], out: &mut [u8]) -> usize {
 }
 
 fn marker_at(p: &[u8], at: u16) -> Option<Point> {
-    if little_endian::get8(p, at as u32) == 0 {
+    if little_endian::get::<u8>(p, at as u32) == 0 {
         return None;
     }
     Some(values::point_at(p, at % 32768 + 1))
 }
 
 fn build_transform(p: &[u8], out: &mut [u8]) -> usize {
-    let version = little_endian::get8(p, 57);
+    let version = little_endian::get::<u8>(p, 57);
     let b = geometry::build_transform(values::corners_at(p, 0), marker_at(p, 48), Version(version));
-    little_endian::put8(out, 0, b.refusal);
+    little_endian::put::<u8>(out, 0, b.refusal);
     let f = b.fit;
     values::put_flag(out, 1, f.found);
     let t = f.transform;

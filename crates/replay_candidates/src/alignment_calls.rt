@@ -8,7 +8,7 @@ use transform::Point;
 fn put_marker(out: &mut [u8], at: u8, m: Option<Point>) {
     match m {
         Some(q) => {
-            little_endian::put8(out, at as u32, 1);
+            little_endian::put::<u8>(out, at as u32, 1);
             values::put_point(out, at as u16 + 1, q);
         }
         None => {}
@@ -16,7 +16,7 @@ fn put_marker(out: &mut [u8], at: u8, m: Option<Point>) {
 }
 
 fn put_located(out: &mut [u8], r: Located) -> usize {
-    little_endian::put8(out, 0, r.refusal);
+    little_endian::put::<u8>(out, 0, r.refusal);
     let m = r.marker;
     put_marker(out, 1, m);
     10
@@ -25,8 +25,8 @@ fn put_located(out: &mut [u8], r: Located) -> usize {
 fn find_alignment(p: &[u8], out: &mut [u8]) -> usize {
     let r = rows::find_alignment(
         slices::rest(p, 20),
-        little_endian::get32(p, 0),
-        little_endian::get32(p, 4),
+        little_endian::get::<u32>(p, 0),
+        little_endian::get::<u32>(p, 4),
         values::point_at(p, 8),
         values::float_at(p, 16),
     );
@@ -36,10 +36,10 @@ fn find_alignment(p: &[u8], out: &mut [u8]) -> usize {
 fn match_alignment(p: &[u8], out: &mut [u8]) -> usize {
     let r = alignment::match_alignment(
         slices::rest(p, 97),
-        little_endian::get32(p, 0),
-        little_endian::get32(p, 4),
+        little_endian::get::<u32>(p, 0),
+        little_endian::get::<u32>(p, 4),
         values::lens_at(p, 8),
-        Version(little_endian::get8(p, 96)),
+        Version(little_endian::get::<u8>(p, 96)),
     );
     put_located(out, r)
 }
@@ -47,10 +47,10 @@ fn match_alignment(p: &[u8], out: &mut [u8]) -> usize {
 fn locate_alignment(p: &[u8], out: &mut [u8]) -> usize {
     let r = alignment::locate_alignment(
         slices::rest(p, 101),
-        little_endian::get32(p, 0),
-        little_endian::get32(p, 4),
+        little_endian::get::<u32>(p, 0),
+        little_endian::get::<u32>(p, 4),
         values::lens_at(p, 8),
-        Version(little_endian::get8(p, 96)),
+        Version(little_endian::get::<u8>(p, 96)),
         values::float_at(p, 97),
     );
     put_located(out, r)
@@ -59,14 +59,14 @@ fn locate_alignment(p: &[u8], out: &mut [u8]) -> usize {
 fn refine_alignment(p: &[u8], out: &mut [u8]) -> usize {
     let r = alignment::refine_alignment(
         slices::rest(p, 149),
-        little_endian::get32(p, 0),
-        little_endian::get32(p, 4),
+        little_endian::get::<u32>(p, 0),
+        little_endian::get::<u32>(p, 4),
         values::corners_at(p, 8),
-        Version(little_endian::get8(p, 56)),
+        Version(little_endian::get::<u8>(p, 56)),
         values::lens_at(p, 57),
         values::float_at(p, 145),
     );
-    little_endian::put8(out, 0, r.refusal);
+    little_endian::put::<u8>(out, 0, r.refusal);
     let t = r.transform;
     values::put_lens(out, 1, t);
     let m = r.marker;

@@ -28,7 +28,7 @@ fn list_at(p: &[u8]) -> [Finder; 512] {
 }
 
 fn candidates_from(p: &[u8], out: &mut [u8]) -> usize {
-    let n = little_endian::get32(p, 8) as usize;
+    let n = little_endian::get::<u32>(p, 8) as usize;
     if 512 < n {
         return 0;
     }
@@ -37,8 +37,8 @@ fn candidates_from(p: &[u8], out: &mut [u8]) -> usize {
     }
     let a = lend(
         slices::rest(p, 12 + 16 * n),
-        little_endian::get32(p, 0),
-        little_endian::get32(p, 4),
+        little_endian::get::<u32>(p, 0),
+        little_endian::get::<u32>(p, 4),
         list_at(p),
         n,
     );
@@ -49,8 +49,8 @@ fn candidates_from(p: &[u8], out: &mut [u8]) -> usize {
 fn detect_candidates(p: &[u8], out: &mut [u8]) -> usize {
     let a = candidates::detect_candidates(
         slices::rest(p, 8),
-        little_endian::get32(p, 0),
-        little_endian::get32(p, 4),
+        little_endian::get::<u32>(p, 0),
+        little_endian::get::<u32>(p, 4),
     );
     let found = a.detections;
     values::put_detections(out, a.refusal, found)
@@ -59,8 +59,8 @@ fn detect_candidates(p: &[u8], out: &mut [u8]) -> usize {
 fn detect(p: &[u8], out: &mut [u8]) -> usize {
     let r = candidates::detect(
         slices::rest(p, 8),
-        little_endian::get32(p, 0),
-        little_endian::get32(p, 4),
+        little_endian::get::<u32>(p, 0),
+        little_endian::get::<u32>(p, 4),
     );
     let mut found = candidates::no_detections();
     if r.found {

@@ -17,10 +17,10 @@ fn chain(p: &[u8], out: &mut [u8]) -> usize {
     let mut nears = [0u8; slices::LONGEST];
     let a = chain::chain(
         slices::rest(p, 45),
-        little_endian::get32(p, 0),
-        little_endian::get32(p, 4),
-        little_endian::get32(p, 8),
-        little_endian::get8(p, 12),
+        little_endian::get::<u32>(p, 0),
+        little_endian::get::<u32>(p, 4),
+        little_endian::get::<u32>(p, 8),
+        little_endian::get::<u8>(p, 12),
         slices::lent(&mut gray, p, 13),
         slices::lent(&mut bits, p, 17),
         slices::lent(&mut denoised, p, 21),

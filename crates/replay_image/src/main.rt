@@ -10,13 +10,13 @@ fn gray_buffer(p: &[u8], out: &mut [u8]) -> usize {
     let mut gray = [0u8; slices::LONGEST];
     let r = image::gray::gray_buffer(
         slices::rest(p, 17),
-        little_endian::get32(p, 0),
-        little_endian::get32(p, 4),
-        little_endian::get32(p, 8),
-        little_endian::get8(p, 12),
+        little_endian::get::<u32>(p, 0),
+        little_endian::get::<u32>(p, 4),
+        little_endian::get::<u32>(p, 8),
+        little_endian::get::<u8>(p, 12),
         slices::lent(&mut gray, p, 13),
     );
-    little_endian::put8(out, 0, lcr_core::number(r));
+    little_endian::put::<u8>(out, 0, lcr_core::number(r));
     slices::put_lent(out, 1, &gray, p, 13);
     13
 }
@@ -33,8 +33,8 @@ fn binarize(p: &[u8], out: &mut [u8]) -> usize {
     let mut nears = [0u8; slices::LONGEST];
     let r = binarize::binarize(
         slices::rest(p, 32),
-        little_endian::get32(p, 0),
-        little_endian::get32(p, 4),
+        little_endian::get::<u32>(p, 0),
+        little_endian::get::<u32>(p, 4),
         slices::lent(&mut means, p, 12),
         slices::lent(&mut least, p, 16),
         slices::lent(&mut greatest, p, 20),
@@ -42,7 +42,7 @@ fn binarize(p: &[u8], out: &mut [u8]) -> usize {
         slices::lent(&mut nears, p, 28),
         slices::lent(&mut bits, p, 8),
     );
-    little_endian::put8(out, 0, lcr_core::number(r));
+    little_endian::put::<u8>(out, 0, lcr_core::number(r));
     slices::put_lent(out, 1, &bits, p, 8);
     slices::put_blocks(out, 13, p, 12, &means, &least, &greatest, &edges, &nears);
     73
@@ -55,11 +55,11 @@ fn denoised(p: &[u8], out: &mut [u8]) -> usize {
     let mut bits = [0u8; slices::LONGEST];
     let r = image::denoise::denoised(
         slices::rest(p, 12),
-        little_endian::get32(p, 0),
-        little_endian::get32(p, 4),
+        little_endian::get::<u32>(p, 0),
+        little_endian::get::<u32>(p, 4),
         slices::lent(&mut bits, p, 8),
     );
-    little_endian::put8(out, 0, lcr_core::number(r));
+    little_endian::put::<u8>(out, 0, lcr_core::number(r));
     slices::put_lent(out, 1, &bits, p, 8);
     13
 }

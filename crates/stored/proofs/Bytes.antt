@@ -1,14 +1,14 @@
 -- The bytes of a stored list as they are written, one after the other. Assumes nothing.
 use mathlib.Core.Path.{◌≡◌, refl, sym, ap, ◌∙◌}
 use mathlib.Core.List.{List, [], ◌∷◌, ◌++◌}
-use Prim.Native.Nat.{ℕ, suc, ◌+◌, ◌*◌, ◌≤◌}
+use Prim.Native.Nat.{ℕ, suc, ◌+◌, ◌*◌, ◌≤◌, ◌<◌}
 use native.Mathlib.Omega.{arith}
 use lib.ListN.{length, set, length-append}
 use lib.Ieee.{binary32, to_bits}
 use Rattle.lists.specs.Lists.{flat_map, written}
 use Rattle.little_endian.specs.Bytes.{bytes_le, put}
-use Rattle.little_endian.proofs.Halves.{put-append}
-use Rattle.little_endian.proofs.Pieces.{put_then, length_flat}
+use Rattle.little_endian.proofs.One.{put_one}
+use Rattle.little_endian.proofs.Pieces.{put-append, put_then, length_flat}
 use Rattle.little_endian.proofs.Round.{length_bytes, put_front}
 use Rattle.geometry.specs.declared.Finder.{Finder}
 use Rattle.stored.specs.Stored.{head_bytes, place_bytes, size_bytes, size_of, stored_bytes}
@@ -31,13 +31,16 @@ length_head w h n =
 pub pair_is : (a b i : ℕ) (l : List ℕ) → put (bytes_le 4 b) (i + 4) (put (bytes_le 4 a) i l) ≡ put (bytes_le 4 a ++ bytes_le 4 b) i l
 pair_is a b i l = put_then 4 (bytes_le 4 a) (bytes_le 4 b) i (i + 4) l (length_bytes 4 a) refl
 
-pub head_is : (w h n : ℕ) (l : List ℕ) → set (put (bytes_le 2 h) 3 (put (bytes_le 2 w) 1 (set l 0 1))) 5 n ≡ put (head_bytes w h n) 0 l
+pub head_is : (w h n : ℕ) (l : List ℕ) → n < 256
+    → put (bytes_le 1 n) 5 (put (bytes_le 2 h) 3 (put (bytes_le 2 w) 1 (put (bytes_le 1 1) 0 l))) ≡ put (head_bytes w h n) 0 l
 unfolding put
-head_is w h n l =
+head_is w h n l few =
     let W = bytes_le 2 w in
     let H = bytes_le 2 h in
     let m = put W 1 (set l 0 1) in
-    sym
+    put_one n 5 (put H 3 (put W 1 (put (bytes_le 1 1) 0 l))) few
+    ∙ ap (λ z. set (put H 3 (put W 1 z)) 5 n) (put_one 1 0 l (omega arith))
+    ∙ sym
     (put-append W (H ++ (n ∷ [])) 1 (set l 0 1)
     ∙ ap (λ z. put (H ++ (n ∷ [])) (1 + z) m) (length_bytes 2 w)
     ∙ put-append H (n ∷ []) 3 m

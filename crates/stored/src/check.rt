@@ -13,7 +13,7 @@ fn bad_head(bytes: &[u8]) -> bool
     if bytes.len() < 6 {
         return true;
     }
-    little_endian::get8(bytes, 0) != 1
+    little_endian::get::<u8>(bytes, 0) != 1
 }
 
 fn many_finders(count: usize) -> bool
@@ -45,10 +45,10 @@ pub fn check_read(bytes: &[u8]) -> Result<(), Refusal>
     if bad_head(bytes) {
         return Err(Refusal::BadList);
     }
-    let width = little_endian::get16(bytes, 1);
-    let height = little_endian::get16(bytes, 3);
+    let width = little_endian::get::<u16>(bytes, 1);
+    let height = little_endian::get::<u16>(bytes, 3);
     check_sides(width as u32, height as u32)?;
-    if bad_length(bytes.len(), little_endian::get8(bytes, 5)) {
+    if bad_length(bytes.len(), little_endian::get::<u8>(bytes, 5)) {
         return Err(Refusal::BadList);
     }
     Ok(())

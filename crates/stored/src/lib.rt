@@ -43,11 +43,11 @@ pub fn read_list(bytes: &[u8]) -> Stored
             finders: none,
         };
     }
-    let found = read::read_finders(bytes, little_endian::get8(bytes, 5) as u32);
+    let found = read::read_finders(bytes, little_endian::get::<u8>(bytes, 5) as u32);
     Stored {
         refusal: 0,
-        width: little_endian::get16(bytes, 1),
-        height: little_endian::get16(bytes, 3),
+        width: little_endian::get::<u16>(bytes, 1),
+        height: little_endian::get::<u16>(bytes, 3),
         finders: found,
     }
 }

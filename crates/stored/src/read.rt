@@ -8,7 +8,7 @@ ghost use Rattle.stored.specs.Stored.{finder_at};
 use finders::{Finders, no_finders};
 use float::Float;
 use geometry::Finder;
-use little_endian::get32;
+use little_endian::get;
 
 // Finder k of so many.
 fn finder_at(bytes: &[u8], count: u32, k: u32) -> Finder
@@ -18,10 +18,10 @@ fn finder_at(bytes: &[u8], count: u32, k: u32) -> Finder
     let places = 6 + 8 * k;
     let sizes = 6 + 8 * count + 8 * k;
     Finder {
-        x: f32::of_bits(get32(bytes, places)),
-        y: f32::of_bits(get32(bytes, places + 4)),
-        module: f32::of_bits(get32(bytes, sizes)),
-        confirmations: get32(bytes, sizes + 4),
+        x: f32::of_bits(get::<u32>(bytes, places)),
+        y: f32::of_bits(get::<u32>(bytes, places + 4)),
+        module: f32::of_bits(get::<u32>(bytes, sizes)),
+        confirmations: get::<u32>(bytes, sizes + 4),
     }
 }
 

@@ -8,23 +8,23 @@ ghost use Rattle.stored.specs.Stored.{head_bytes, place_bytes, size_bytes, size_
 
 use finders::Finders;
 use float::Float;
-use little_endian::{put8, put16, put32};
+use little_endian::put;
 
 fn put_head(out: &mut [u8], width: u16, height: u16, count: u8)
     ensures { out.new ≡ put (head_bytes width height count) 0 out.old }
 {
-    put8(out, 0, 1);
-    put16(out, 1, width);
-    put16(out, 3, height);
-    put8(out, 5, count);
+    put::<u8>(out, 0, 1);
+    put::<u16>(out, 1, width);
+    put::<u16>(out, 3, height);
+    put::<u8>(out, 5, count);
 }
 
 fn put_pair(out: &mut [u8], at: u32, a: u32, b: u32)
     requires { at < 2 ^ 16 }
     ensures { out.new ≡ put (bytes_le 4 a ++ bytes_le 4 b) at out.old }
 {
-    put32(out, at, a);
-    put32(out, at + 4, b);
+    put::<u32>(out, at, a);
+    put::<u32>(out, at + 4, b);
 }
 
 fn put_places(out: &mut [u8], t: Finders)

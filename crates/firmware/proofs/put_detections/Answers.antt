@@ -21,9 +21,9 @@ pub loop-k-preserved : goal.loop-k-preserved
 loop-k-preserved c =
     let t = (goal.at.loop-k-preserved c).Start.args.t in
     let l = c.loop-k in
-    c.put_detection.ensures ∙ piece_more detection_bytes detection_size length_detection t.at 1 l.k _ c.put8.new.s l.out (omega (arith, long (goal.at.loop-k-preserved c).Start)) l.invariant
+    c.put_detection.ensures ∙ piece_more detection_bytes detection_size length_detection t.at 1 l.k _ c.put.new.s l.out (omega (arith, long (goal.at.loop-k-preserved c).Start)) l.invariant
 
 pub returns : goal.returns
 returns c =
     let s = (goal.at.returns c).Start in
-    c.loop-k.invariant ∙ ap (put (flat_map detection_bytes (take c.loop-k.k s.args.t.at)) 1) c.put8.ensures ∙ whole_is s.args.t c.loop-k.k s.args.out.now (long (goal.at.returns c).Start) (omega (arith, c.loop-k-test.false))
+    c.loop-k.invariant ∙ ap (put (flat_map detection_bytes (take c.loop-k.k s.args.t.at)) 1) c.put.ensures ∙ whole_is s.args.t c.loop-k.k s.args.out.now (long (goal.at.returns c).Start) (omega (arith, c.loop-k-test.false))

@@ -6,4 +6,4 @@ use Rattle.firmware.proofs.put_finder.Goals as goal
 pub returns : goal.returns
 returns c =
     let a = c.args in
-    c.put32-4.ensures ∙ cc (finder_is a.f a.at a.out.now)
+    c.put-4.ensures ∙ cc (finder_is a.f a.at a.out.now)

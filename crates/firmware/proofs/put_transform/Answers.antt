@@ -13,7 +13,7 @@ pub loop-k-preserved : goal.loop-k-preserved
 loop-k-preserved c =
     let a = c.args in
     let l = c.loop-k in
-    c.put64.ensures ∙ rw c.bits.ensures.value (number_more a.t a.at l.k a.out.now l.out c.loop-k-test.true l.invariant)
+    c.put.ensures ∙ rw c.bits.ensures.value (number_more a.t a.at l.k a.out.now l.out c.loop-k-test.true l.invariant)
 
 pub returns : goal.returns
 returns c =

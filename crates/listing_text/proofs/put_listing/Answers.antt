@@ -32,7 +32,7 @@ put_picture-requires c =
     let l = c.args.input.now in
     let z : listing_refusal l ≡ 0 = sym ((c.number-refusal.ensures ∙ c.check_input.ensures)) ∙ c.if-refusal-ne0.false in
     let g : take (length l - 4) (drop 4 l) ≡ drop 4 l = take_all (length l - 4) (drop 4 l) (simp length-drop (omega arith)) in
-    ready l (take (length l - 4) (drop 4 l)) _ _ z c.get16-width.ensures c.get16-height.ensures g
+    ready l (take (length l - 4) (drop 4 l)) _ _ z c.get-width.ensures c.get-height.ensures g
 
 pub returns : goal.returns
 returns c =
@@ -40,4 +40,4 @@ returns c =
     let z : listing_refusal l ≡ 0 = sym ((c.number-refusal.ensures ∙ c.check_input.ensures)) ∙ c.if-refusal-ne0.false in
     let g : take (length l - 4) (drop 4 l) ≡ drop 4 l = take_all (length l - 4) (drop 4 l) (simp length-drop (omega arith)) in
     let p = c.put_picture.ensures in
-    record { text = listing_done l (take (length l - 4) (drop 4 l)) _ _ _ _ _ z c.get16-width.ensures c.get16-height.ensures g p.text; most = p.most }
+    record { text = listing_done l (take (length l - 4) (drop 4 l)) _ _ _ _ _ z c.get-width.ensures c.get-height.ensures g p.text; most = p.most }

@@ -17,7 +17,7 @@ slice_bounds-read_full-end-3 c = simp length-take (omega arith)
 pub returns-then-read_full-len : goal.returns-then-read_full-len
 returns-then-read_full-len c =
     let l = c.args.payload.now in
-    let n = c.get32-len.result in
+    let n = c.get-len.result in
     let p = c.read_full-2.new.buf in
     let h : n ≤ length l = omega (arith, c.if-payload-len.false) in
     (kept_long n l p h c.read_full-2.auto.buf, inl c.no_call-then-read_full-len.ensures)
@@ -25,7 +25,7 @@ returns-then-read_full-len c =
 pub returns : goal.returns
 returns c =
     let l = c.args.payload.now in
-    let n = c.get32-len.result in
+    let n = c.get-len.result in
     let p = c.read_full-2.new.buf in
     let h : n ≤ length l = omega (arith, c.if-payload-len.false) in
     let k = c.read_full-2.auto.buf in

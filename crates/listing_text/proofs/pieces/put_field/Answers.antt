@@ -3,6 +3,7 @@ use Prim.Native.Nat.{◌+◌}
 use native.Mathlib.Omega.{arith}
 use lib.ListN.{length, take}
 use Rattle.little_endian.specs.Bytes.{put}
+use Rattle.little_endian.proofs.One.{put_one}
 use Rattle.little_endian.proofs.Round.{length-put}
 use Rattle.listing_text.proofs.Writing.{field_more, field_end}
 use Rattle.listing_text.proofs.pieces.put_field.Goals as goal
@@ -29,8 +30,8 @@ loop-i-smaller c = omega arith
 pub loop-i-preserved : goal.loop-i-preserved
 loop-i-preserved c =
     let l = c.loop-i in
-    let e : c.put8.new.s ≡ put (take (l.i + 1) c.args.field.now) c.args.at c.args.text.now =
-    c.put8.ensures ∙ field_more c.args.field.now c.args.text.now l.text c.args.at l.i _ c.loop-i-test.true l.invariant.2 in
+    let e : c.put.new.s ≡ put (take (l.i + 1) c.args.field.now) c.args.at c.args.text.now =
+    c.put.ensures ∙ put_one _ _ l.text (omega (arith, c.type_inv.field l.i)) ∙ field_more c.args.field.now c.args.text.now l.text c.args.at l.i _ c.loop-i-test.true l.invariant.2 in
     (omega arith, ap length e ∙ length-put (take (l.i + 1) c.args.field.now) c.args.at c.args.text.now, e)
 
 pub overflow_cast-i-2 : goal.overflow_cast-i-2
@@ -53,4 +54,4 @@ returns c =
     let l = c.loop-i in
     let e : l.i ≡ length c.args.field.now = omega (arith, l.invariant.0, c.loop-i-test.false) in
     let w = field_end c.args.field.now c.args.text.now l.text c.args.at l.i c.args.end e l.invariant.2 in
-    (c.put8-2.ensures ∙ w.0, w.1)
+    (c.put-2.ensures ∙ put_one _ _ l.text (omega arith) ∙ w.0, w.1)

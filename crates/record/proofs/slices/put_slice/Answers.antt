@@ -4,4 +4,4 @@ use Rattle.record.proofs.SliceLaws.{slice_is}
 use Rattle.record.proofs.slices.put_slice.Goals as goal
 
 pub returns : goal.returns
-returns c = let a = c.args in c.put64.ensures ∙ cc (slice_is a.s.now a.at a.out.now)
+returns c = let a = c.args in c.put-2.ensures ∙ cc (slice_is a.s.now a.at a.out.now)

@@ -4,4 +4,4 @@ use lib.Ieee.{binary64, of_bits}
 use Rattle.record.proofs.values.double_at.Goals as goal
 
 pub returns : goal.returns
-returns c = c.of_bits.ensures ∙ ap (of_bits binary64) c.get64.ensures
+returns c = c.of_bits.ensures ∙ ap (of_bits binary64) c.get.ensures

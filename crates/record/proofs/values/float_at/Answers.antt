@@ -4,4 +4,4 @@ use lib.Ieee.{binary32, of_bits}
 use Rattle.record.proofs.values.float_at.Goals as goal
 
 pub returns : goal.returns
-returns c = c.of_bits.ensures ∙ ap (of_bits binary32) c.get32.ensures
+returns c = c.of_bits.ensures ∙ ap (of_bits binary32) c.get.ensures

@@ -2,4 +2,4 @@
 use Rattle.record.proofs.values.put_double.Goals as goal
 
 pub returns : goal.returns
-returns c = rw (← c.bits.ensures.value) c.put64.ensures
+returns c = rw (← c.bits.ensures.value) c.put.ensures

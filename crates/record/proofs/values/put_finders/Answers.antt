@@ -1,6 +1,7 @@
-use Rattle.std.proofs.Common.{◌≡◌, ◌+◌, ◌*◌, length, take, refl, ap, ◌∙◌, take_all, rules}
+use Rattle.std.proofs.Common.{◌≡◌, ◌+◌, ◌*◌, length, take, refl, ap, ◌∙◌, take_all, arith, rules}
 use Rattle.lists.specs.Lists.{flat_map}
 use Rattle.little_endian.specs.Bytes.{put}
+use Rattle.little_endian.proofs.One.{put_one}
 use Rattle.little_endian.proofs.Pieces.{piece_more}
 use Rattle.finders.specs.Answer.{held_in}
 use Rattle.firmware.specs.Firmware.{finder_bytes}
@@ -16,7 +17,7 @@ pub loop-i-preserved : goal.loop-i-preserved
 loop-i-preserved c =
     let a = c.args in
     let l = c.loop-i in
-    c.put_finder.ensures ∙ piece_more finder_bytes 16 length_finder (take c.min.result a.t.table) (a.at + 1) l.i _ c.put8.new.s l.out c.loop-i-test.true l.invariant
+    c.put_finder.ensures ∙ piece_more finder_bytes 16 length_finder (take c.min.result a.t.table) (a.at + 1) l.i _ c.put.new.s l.out c.loop-i-test.true l.invariant
 
 pub returns : goal.returns
 returns c =
@@ -26,7 +27,7 @@ returns c =
     let h : take c.min.result a.t.table ≡ held_in a.t = held_all a.t _ c.min.ensures n in
     record {
       bytes =
-          l.invariant ∙ ap (λ z. put (flat_map finder_bytes z) (a.at + 1) c.put8.new.s) (take_all l.i _ c.loop-i-test.false ∙ h)
-          ∙ ap (put (flat_map finder_bytes (held_in a.t)) (a.at + 1)) c.put8.ensures ∙ finders_are a.t a.at a.out.now;
+          l.invariant ∙ ap (λ z. put (flat_map finder_bytes z) (a.at + 1) c.put.new.s) (take_all l.i _ c.loop-i-test.false ∙ h)
+          ∙ ap (put (flat_map finder_bytes (held_in a.t)) (a.at + 1)) (c.put.ensures ∙ put_one _ a.at a.out.now (omega arith)) ∙ finders_are a.t a.at a.out.now;
       next = ap (λ z. a.at + 1 + 16 * length z) h ∙ finders_end a.t a.at;
     }

@@ -1,5 +1,7 @@
 -- `stored::check::bad_head` meets its contract. Assumes nothing.
+use mathlib.Core.Path.{◌∙◌}
 use borrow.Author.Tests.{lt-ltb, le-ltb}
+use Rattle.little_endian.proofs.One.{read_one}
 use Rattle.stored.specs.Stored.{bad_head}
 use Rattle.stored.proofs.check.bad_head.Goals as goal
 
@@ -9,4 +11,4 @@ returns-then-bytes-lt6 c = rw (lt-ltb _ _ c.if-bytes-lt6.true)
 
 pub returns : goal.returns
 unfolding bad_head
-returns c = rw (le-ltb _ _ c.if-bytes-lt6.false, ← c.get8.ensures)
+returns c = rw (le-ltb _ _ c.if-bytes-lt6.false, ← (c.get.ensures ∙ read_one c.args.bytes.now 0))

@@ -4,4 +4,4 @@ use Rattle.stored.proofs.Bytes.{pair_is}
 use Rattle.stored.proofs.write.put_pair.Goals as goal
 
 pub returns : goal.returns
-returns c = let a = c.args in c.put32-2.ensures ∙ cc (pair_is a.a a.b a.at a.out.now)
+returns c = let a = c.args in c.put-2.ensures ∙ cc (pair_is a.a a.b a.at a.out.now)

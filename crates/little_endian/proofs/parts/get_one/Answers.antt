@@ -1,7 +1,0 @@
--- `little_endian::parts::get_one` meets its contract. Assumes nothing.
-use mathlib.Core.Path.{sym}
-use lib.ListN.{get_or-eq_default}
-use Rattle.little_endian.proofs.parts.get_one.Goals as goal
-
-pub returns-else-at-s : goal.returns-else-at-s
-returns-else-at-s c = sym (get_or-eq_default c.args.s.now 0 c.if-at-s.false)
