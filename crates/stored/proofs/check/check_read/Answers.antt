@@ -1,5 +1,5 @@
 -- `stored::check::check_read` meets its contract. Assumes nothing.
-use mathlib.Core.Path.{◌≡◌, refl, sym, ap, ◌∙◌}
+use mathlib.Core.Path.{◌≡◌, refl, ap, ◌∙◌}
 use Rattle.std.specs.Prelude.{length, take, drop}
 use Rattle.lcr_core.specs.Outcome.{first_of, sides_refusal}
 use Rattle.lcr_core.proofs.Checks.{refused_on, passed_first, check_refuses, check_passes, sides_allowed}
