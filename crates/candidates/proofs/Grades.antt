@@ -10,7 +10,7 @@ use lib.Dec.{ltb}
 use lib.Ieee.{Float, le}
 use lib.ListN.{length, get_or, get_or-eq_default}
 use borrow.Author.Tests.{ltb-true, ltb-false}
-use Rattle.lists.specs.Lists.{Each, Some, flat_map}
+use Rattle.lists.specs.Lists.{Each, Some as Exists, flat_map}
 use Rattle.lists.proofs.Filters.{each_map, each_both, each_get_or, each_from, each_among, some_map}
 use Rattle.lists.proofs.Padded.{get_or-padded, get_or_table}
 use Rattle.lcr_core.specs.Outcome.{unless}
@@ -133,7 +133,7 @@ module _ (bits : List ℕ) (w h : ℕ) (fs : List Finder) where
   built t = build_of bits w h (corners_of fs t) t.score
 
   -- that of a ranked triple, where it can be built
-  graded : (t : Triple) → (Admissible fs t × (before fs t < 3)) × Some (λ (u : Triple). t ≡ u) (ranked fs) → (built t).found ≡ true → Graded fs (built t).detection
+  graded : (t : Triple) → (Admissible fs t × (before fs t < 3)) × Exists (λ (u : Triple). t ≡ u) (ranked fs) → (built t).found ≡ true → Graded fs (built t).detection
   unfolding Admissible score_of
   graded t a e =
       let k = carried bits w h (corners_of fs t) t.score e in
