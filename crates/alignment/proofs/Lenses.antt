@@ -1,10 +1,10 @@
 -- Transforms with lens terms (document 02, N12): what `refine_alignment` does with them; and that at strength 0 the alignment functions answer what they
 -- answer without a lens, for any centre. Assumes nothing.
-use Rattle.std.specs.Prelude.{Option, None}
 use Prim.Native.Nat.{ℕ, zero, suc, ◌*◌}
 use mathlib.Core.Path.{◌≡◌, refl, ap, fun_ext}
-use mathlib.Core.Bool.{Bool, true, false, ◌&&◌, cond}
+use mathlib.Core.Bool.{Bool, true, false, cond}
 use mathlib.Core.List.{List}
+use Rattle.std.proofs.Common.{Option, Some, None, IfSome, unwrap_or}
 use lib.Dec.{ltb}
 use lib.ListN.{length}
 use lib.Ieee.{Float, eq}
@@ -30,18 +30,18 @@ use Rattle.alignment.proofs.Alike.{best_alike}
 -- ---- what `refine_alignment` does with lens terms; where it finds no marker, it keeps them (`refine_none`, Theorems.antt)
 module _ (bits : List ℕ) (w h : ℕ) (c : Corners) (v : ℕ) (t : Transform) (m : Float) where
   -- where it rebuilds the transform, through the finders and the marker a, centre and strength are 0
-  pub refine_rebuilds : alignment_refusal (length bits) w h v ≡ 0 → (a : Option Point) → located_of bits w h t v m ≡ a → is_found a ≡ true → (built_of c a v).fit.found ≡ true
-      → refine_of bits w h c v t m ≡ record { refusal = 0; transform = plain (built_of c a v).fit.transform.m; marker = a }
+  pub refine_rebuilds : alignment_refusal (length bits) w h v ≡ 0 → (a : Option Point) → located_of bits w h t v m ≡ a → is_found a ≡ true → (b : Transform) → (built_of c a v).fit ≡ Some b
+      → refine_of bits w h c v t m ≡ record { refusal = 0; transform = plain b.m; marker = a }
   unfolding refine_of rebuilt_of
-  refine_rebuilds e a l f b = rw (e, l, f, b) (ap (λ (u : Transform). refined 0 u a) (built_plain c a v))
+  refine_rebuilds e a l f b g = rw (e, l, f, g) (ap (λ (u : Transform). refined 0 u a) (rw g at (built_plain c a v)))
 
   -- where there is no such transform, it keeps those of the one given
-  pub refine_keeps : alignment_refusal (length bits) w h v ≡ 0 → (a : Option Point) → located_of bits w h t v m ≡ a → (built_of c a v).fit.found ≡ false
+  pub refine_keeps : alignment_refusal (length bits) w h v ≡ 0 → (a : Option Point) → located_of bits w h t v m ≡ a → (built_of c a v).fit ≡ None
       → refine_of bits w h c v t m ≡ record { refusal = 0; transform = t; marker = a }
   unfolding refine_of rebuilt_of
   refine_keeps e a l b = rw (e, l, b) (go (is_found a))
     where
-      go : (f : Bool) → refined 0 (cond (f && false) (built_of c a v).fit.transform t) a ≡ record { refusal = 0; transform = t; marker = a }
+      go : (f : Bool) → refined 0 (cond f t t) a ≡ record { refusal = 0; transform = t; marker = a }
       go true = refl
       go false = refl
 
@@ -56,7 +56,11 @@ module _ (bits : List ℕ) (w h : ℕ) (c : Corners) (v : ℕ) (t : Transform) (
   refined-plain p =
       let a = located_of bits w h t v m in
       let b = (built_of c a v).fit in
-      unless_either Plain (alignment_refusal (length bits) w h v) zero_transform (rebuilt_of c a v t) refl (either Plain (is_found a && b.found) b.transform t (built_plain c a v) p)
+      unless_either Plain (alignment_refusal (length bits) w h v) zero_transform (rebuilt_of c a v t) refl (either Plain (is_found a) (unwrap_or b t) t (or_plain b (built_plain c a v)) p)
+    where
+      or_plain : (b : Option Transform) → IfSome b Plain → Plain (unwrap_or b t)
+      or_plain None _ = p
+      or_plain (Some u) q = q
 
 -- ---- strength 0
 module _ (bits : List ℕ) (w h : ℕ) (t : Transform) (e : eq t.strength d0 ≡ true) where
@@ -92,11 +96,12 @@ module _ (bits : List ℕ) (w h : ℕ) (t : Transform) (e : eq t.strength d0 ≡
   -- `refine_alignment`: the same refusal, the same marker and the same eight numbers
   numbers_plain : (c : Corners) (a : Option Point) (v : ℕ) → (rebuilt_of c a v t).m ≡ (rebuilt_of c a v (plain t.m)).m
   unfolding rebuilt_of
-  numbers_plain c a v = go (is_found a && (built_of c a v).fit.found)
+  numbers_plain c a v = go (is_found a) (built_of c a v).fit
     where
-      go : (b : Bool) → (cond b (built_of c a v).fit.transform t).m ≡ (cond b (built_of c a v).fit.transform (plain t.m)).m
-      go true = refl
-      go false = refl
+      go : (f : Bool) (b : Option Transform) → (cond f (unwrap_or b t) t).m ≡ (cond f (unwrap_or b (plain t.m)) (plain t.m)).m
+      go true None = refl
+      go true (Some u) = refl
+      go false b = refl
 
   pub refine_plain : (c : Corners) (v : ℕ) (m : Float) → let r = refine_of bits w h c v t m in let s = refine_of bits w h c v (plain t.m) m in
       (r.refusal ≡ s.refusal) × (r.marker ≡ s.marker) × (r.transform.m ≡ s.transform.m)

@@ -1,7 +1,8 @@
 -- What refining answers where it is refused, and where it is not. Assumes nothing.
 use Rattle.std.specs.Prelude.{Option, None}
 use mathlib.Core.Path.{◌≡◌, refl, ap}
-use mathlib.Core.Bool.{true, false, ◌&&◌, cond}
+use mathlib.Core.Bool.{true, false}
+use Rattle.std.proofs.Common.{unwrap_or}
 use Prim.Native.Nat.{ℕ, zero, suc}
 use Rattle.transform.specs.Fit.{zero_transform}
 use Rattle.transform.specs.declared.Transform.{Transform}
@@ -19,20 +20,10 @@ refining_refused (suc r) n t a h e = rw (← e)
 pub refining_done : (r n : ℕ) (t u : Transform) (a b : Option Point) → r ≡ 0 → r ≡ n → t ≡ u → a ≡ b → ◌≡◌ {A = Refined} (record { refusal = 0; transform = t; marker = a }) (refined n u b)
 refining_done r n t u a b h e p q = rw (← e, h, p, q)
 
--- the transform b that is built through the finders and the marker
-abbrev chosen : Option Point → Transform → Built → Transform
-chosen a t b = cond (is_found a && b.fit.found) b.fit.transform t
-
 module _ (corners : Corners) (a : Option Point) (v : ℕ) (t : Transform) where
-  through : (b : Built) → b ≡ built_of corners a v → chosen a t b ≡ rebuilt_of corners a v t
+  pub rebuilt_found : (b : Built) (r : Transform) → b ≡ built_of corners a v → is_found a ≡ true → r ≡ unwrap_or b.fit t → r ≡ rebuilt_of corners a v t
   unfolding rebuilt_of
-  through b q = ap (chosen a t) q
-
-  pub rebuilt_found : (b : Built) → b ≡ built_of corners a v → is_found a ≡ true → b.fit.found ≡ true → b.fit.transform ≡ rebuilt_of corners a v t
-  rebuilt_found b q e f = rw (← through b q, e, f)
-
-  pub rebuilt_none : (b : Built) → b ≡ built_of corners a v → is_found a ≡ true → b.fit.found ≡ false → t ≡ rebuilt_of corners a v t
-  rebuilt_none b q e f = rw (← through b q, e, f)
+  rebuilt_found b r q e f = rw (e, ← q, f)
 
   pub rebuilt_missing : is_found a ≡ false → t ≡ rebuilt_of corners a v t
   unfolding rebuilt_of

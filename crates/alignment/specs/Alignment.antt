@@ -1,6 +1,6 @@
 -- The alignment functions. Document 01: refusals "1, 2, 4, 7"; "Alignment: none below version 2", the template match (specs/Template.antt), "if no site has 23, `find_alignment`
 -- searches the rows" (crate rows), and `refine_alignment` "answers none but keeps the transform it was given". Definitions only.
-use Rattle.std.specs.Prelude.{ℕ, Bool, true, false, ◌&&◌, cond, List, ◌++◌, ltb, length, Float, Option, Some, None}
+use Rattle.std.specs.Prelude.{ℕ, Bool, true, false, cond, List, ◌++◌, ltb, length, unwrap_or, Float, Option, Some, None}
 use Rattle.lcr_core.specs.Outcome.{first_of, unless}
 use Rattle.lcr_core.specs.Version.{version_checks}
 use Rattle.binary.specs.Refusal.{bits_checks}
@@ -47,7 +47,7 @@ is_found None = false
 
 -- the transform through the finders and the marker; without a marker, or where there is no such transform, the one given
 unfoldable pub rebuilt_of : Corners → Option Point → ℕ → Transform → Transform
-rebuilt_of corners a version t = let f = (built_of corners a version).fit in cond (is_found a && f.found) f.transform t
+rebuilt_of corners a version t = cond (is_found a) (unwrap_or (built_of corners a version).fit t) t
 
 -- a refusal's number, with every other field zero, or the transform and the marker
 abbrev pub refined : ℕ → Transform → Option Point → Refined

@@ -135,14 +135,10 @@ fn rebuilt(corners: Corners, marker: Option<Point>, version: Version, transform:
     ensures { result ≡ rebuilt_of corners marker version.0 transform }
 {
     if is_found(marker) {
-        let built = build_transform(corners, marker, version);
-        let fit = built.fit;
-        if fit.found {
-            let t = fit.transform;
-            return t;
-        }
+        build_transform(corners, marker, version).fit.unwrap_or(transform)
+    } else {
+        transform
     }
-    transform
 }
 
 // The marker again, through a better transform, and the transform through it.

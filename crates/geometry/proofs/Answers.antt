@@ -1,5 +1,5 @@
 -- The answers put together, from the values that the calls gave. Assumes nothing.
-use Rattle.std.specs.Prelude.{Some, None, Option, Ok, Err, Result}
+use Rattle.std.specs.Prelude.{Some, None, Option, MatchOption, Ok, Err, Result}
 use mathlib.Core.Path.{◌≡◌, refl, sym, ap, ◌∙◌}
 use mathlib.Core.Bool.{Bool, true, false, cond, ◌||◌}
 use Prim.Native.Nat.{ℕ, ◌+◌, ◌≤◌, ◌<◌, min}
@@ -11,9 +11,8 @@ use Rattle.float.specs.Steps.{minus32, over32, whole32}
 use Rattle.float.specs.Constants.{f0, f4, f6_5, f21}
 use Rattle.transform.specs.declared.Point.{Point}
 use Rattle.transform.specs.declared.Triangle.{Triangle}
-use Rattle.transform.specs.declared.Fit.{Fit}
 use Rattle.transform.specs.declared.Transform.{Transform}
-use Rattle.transform.specs.Fit.{quad_fit, zero_transform}
+use Rattle.transform.specs.Fit.{quad_fit}
 use Rattle.lcr_core.specs.Outcome.{refusal_number, number_of, unless}
 use Rattle.lcr_core.proofs.Checks.{unless_error}
 use Rattle.lcr_core.specs.declared.Refusal.{Refusal}
@@ -22,7 +21,7 @@ use Rattle.lcr_core.specs.Version.{valid, new_of, version_refusal, side_of}
 use Rattle.lcr_core.specs.declared.version.Version.{Version}
 use Rattle.geometry.specs.Order.{point}
 use Rattle.geometry.specs.Estimate.{side_in, nearest_version, estimate_of}
-use Rattle.geometry.specs.Build.{modules_of, pixels_of, affine_of, homography_of, no_fit, symbol_fit, built_of}
+use Rattle.geometry.specs.Build.{modules_of, pixels_of, affine_of, homography_of, or_else, no_fit, symbol_fit, built_of}
 use Rattle.geometry.specs.declared.Corners.{Corners}
 use Rattle.geometry.specs.declared.Built.{Built}
 
@@ -61,25 +60,26 @@ module _ (c : Corners) where
   estimated s n f g h e k = rw (f, g, h, k, e)
 
 -- ---- the transform
-module _ (c : Corners) (m : Option Point) (a : Point) (v side : ℕ) (f h : Fit) (e : m ≡ Some a) (s : side ≡ side_of v) (k : f ≡ affine_of c (whole32 side)) (l : h ≡ homography_of c a (whole32 side)) where
+module _ (c : Corners) (m : Option Point) (a : Point) (v side : ℕ) (f h : Option Transform) (e : m ≡ Some a) (s : side ≡ side_of v) (k : f ≡ affine_of c (whole32 side)) (l : h ≡ homography_of c a (whole32 side)) where
   pub fit-first : v < 2 → f ≡ symbol_fit c m v
   unfolding symbol_fit
   fit-first g = rw (e, lt-ltb v 2 g, k, s)
 
-  pub fit-quad : 2 ≤ v → h.found ≡ true → h ≡ symbol_fit c m v
+  pub fit-second : 2 ≤ v → or_else h f ≡ symbol_fit c m v
   unfolding symbol_fit
-  fit-quad g t = rw (e, le-ltb v 2 g, ← s, ← l, t)
+  fit-second g = rw (e, le-ltb v 2 g, k, l, s)
 
-  pub fit-affine : 2 ≤ v → h.found ≡ false → f ≡ symbol_fit c m v
-  unfolding symbol_fit
-  fit-affine g t = rw (e, le-ltb v 2 g, ← s, ← l, t, k)
+-- what `Option::or_else` gives
+pub or_else-is : (h f r : Option Transform) → MatchOption h (r ≡ f) (λ t. r ≡ Some t) → r ≡ or_else h f
+or_else-is None f r e = e
+or_else-is (Some t) f r e = e
 
-pub homography-is : (c : Corners) (m : Point) (side : Float) (s d : Triangle) (r : Fit) → s ≡ modules_of side → d ≡ pixels_of c
+pub homography-is : (c : Corners) (m : Point) (side : Float) (s d : Triangle) (r : Option Transform) → s ≡ modules_of side → d ≡ pixels_of c
     → r ≡ quad_fit (record { a = s.a; b = s.b; c = s.c; d = point (minus32 side f6_5) (minus32 side f6_5) }) (record { a = d.a; b = d.b; c = d.c; d = m }) → r ≡ homography_of c m side
 unfolding homography_of
 homography-is c m side s d r e g h = cc
 
-pub fit-missing : (c : Corners) (m : Option Point) (v side : ℕ) (f : Fit) → m ≡ None → side ≡ side_of v → f ≡ affine_of c (whole32 side) → f ≡ symbol_fit c m v
+pub fit-missing : (c : Corners) (m : Option Point) (v side : ℕ) (f : Option Transform) → m ≡ None → side ≡ side_of v → f ≡ affine_of c (whole32 side) → f ≡ symbol_fit c m v
 unfolding symbol_fit
 fit-missing c m v side f e s k = rw (e, k, s)
 
@@ -92,15 +92,15 @@ same_version v w e = go (valid v) e
     go false k = let z : ◌≡◌ {A = ℕ} 0 1 = cc in absurd (omega arith)
 
 module _ (c : Corners) (m : Option Point) (v : ℕ) (r : Result Version Refusal) (e : (r ≡ new_of v) × (number_of r ≡ version_refusal v)) where
-  pub built : (w : Version) (f : Fit) → r ≡ Ok w → f ≡ symbol_fit c m w.0 → ◌≡◌ {A = Built} (record { refusal = 0; fit = f }) (built_of c m v)
+  pub built : (w : Version) (f : Option Transform) → r ≡ Ok w → f ≡ symbol_fit c m w.0 → ◌≡◌ {A = Built} (record { refusal = 0; fit = f }) (built_of c m v)
   unfolding built_of
   built w f h g =
       let n : 0 ≡ version_refusal v = ap number_of (sym h) ∙ e.1 in
       rw (← n, g, same_version v w (sym h ∙ e.0))
 
-  pub not_built : (n : ℕ) (z : Transform) (x : Refusal) → r ≡ Err x → n ≡ refusal_number x → z ≡ zero_transform → ◌≡◌ {A = Built} (record { refusal = n; fit = record { found = false; transform = z } }) (built_of c m v)
+  pub not_built : (n : ℕ) (x : Refusal) → r ≡ Err x → n ≡ refusal_number x → ◌≡◌ {A = Built} (record { refusal = n; fit = None }) (built_of c m v)
   unfolding built_of
-  not_built n z x h o k =
+  not_built n x h o =
       let q : refusal_number x ≡ version_refusal v = ap number_of (sym h) ∙ e.1 in
       let u : no_fit ≡ unless (version_refusal v) no_fit (symbol_fit c m v) = unless_error x _ _ _ q in
       cc

@@ -1,9 +1,9 @@
 -- What the definitions say of the order, the score, the version and the transform. Assumes nothing.
-use Rattle.std.specs.Prelude.{Option, Some, None}
 use mathlib.Core.Path.{◌≡◌, refl, sym}
 use mathlib.Core.Logic.{◌⊎◌, inl, inr}
 use mathlib.Core.Bool.{Bool, true, false, cond, not, ◌&&◌, true≢false}
 use mathlib.Core.List.{[], ◌∷◌, map}
+use Rattle.std.specs.Prelude.{Option, Some, None, IfSome}
 use Prim.Native.Nat.{ℕ, zero, suc, ◌+◌, ◌-◌, ◌*◌, ◌/◌, ◌^◌, ◌≤◌, min}
 use native.Mathlib.Omega.{arith}
 use lib.Dec.{ltb}
@@ -16,7 +16,7 @@ use Rattle.geometry.specs.Order.{span2_of, is_longest, turned_of, order_of}
 use Rattle.geometry.specs.Score.{out_by_pitch, out_by_edge, out_by_angle, out_by_ratio, admissible_corners, score_of, admissible}
 use Rattle.geometry.specs.Estimate.{nearest_version}
 use Rattle.transform.specs.Fit.{Plain}
-use Rattle.transform.specs.declared.Fit.{Fit}
+use Rattle.transform.specs.declared.Transform.{Transform}
 use Rattle.transform.proofs.Theorems.{quad_plain, triangle_plain}
 use Rattle.lcr_core.specs.Version.{version_refusal, side_of}
 use Rattle.lcr_core.proofs.Checks.{either, unless_either}
@@ -98,23 +98,27 @@ unfolding nearest_version round_of to_unsigned of_int of_bits sub div round
 sides = refl
 
 -- ---- "transforms built from finders have strength 0" (document 02, N12) and centre 0, as what a refusal leaves
+abbrev PlainFit : Option Transform → Type 0
+PlainFit f = IfSome f Plain
+
+else-plain : (h g : Option Transform) → PlainFit h → PlainFit g → PlainFit (or_else h g)
+else-plain None g p q = q
+else-plain (Some t) g p q = p
+
 module _ (c : Corners) where
-  affine_plain : (side : Float) → Plain (affine_of c side).transform
+  affine_plain : (side : Float) → PlainFit (affine_of c side)
   unfolding affine_of
   affine_plain side = triangle_plain _ _
 
-  abbrev PlainFit : Fit → Type 0
-  PlainFit f = Plain f.transform
-
-  fit_plain : (a : Option Point) (v : ℕ) → Plain (symbol_fit c a v).transform
+  fit_plain : (a : Option Point) (v : ℕ) → PlainFit (symbol_fit c a v)
   unfolding symbol_fit homography_of
   fit_plain None v = affine_plain (whole32 (side_of v))
   fit_plain (Some p) v =
       let side = whole32 (side_of v) in
       let h = homography_of c p side in
       let g = affine_of c side in
-      either PlainFit (ltb v 2) g (or_else h g) (affine_plain side) (either PlainFit h.found h g (quad_plain _ _) (affine_plain side))
+      either PlainFit (ltb v 2) g (or_else h g) (affine_plain side) (else-plain h g (quad_plain _ _) (affine_plain side))
 
-  pub built_plain : (a : Option Point) (v : ℕ) → Plain (built_of c a v).fit.transform
+  pub built_plain : (a : Option Point) (v : ℕ) → IfSome (built_of c a v).fit Plain
   unfolding built_of
-  built_plain a v = unless_either PlainFit (version_refusal v) no_fit (symbol_fit c a v) refl (fit_plain a v)
+  built_plain a v = unless_either PlainFit (version_refusal v) no_fit (symbol_fit c a v) tt (fit_plain a v)

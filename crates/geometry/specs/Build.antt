@@ -1,12 +1,13 @@
 -- The transform from the finders and, from version 2 on, the alignment marker (`build_transform`). Document 01: "`build_transform`: 7", a version outside
 -- 1 to 64, with every other field zero. Definitions only.
-use Rattle.std.specs.Prelude.{false, cond, ℕ, ltb, Float, Option, Some, None}
+use Rattle.std.specs.Prelude.{cond, ℕ, ltb, Float, Option, Some, None}
+use Rattle.std.specs.Option.{option_or}
 use Rattle.float.specs.Steps.{minus32, whole32}
 use Rattle.float.specs.Constants.{f3_5, f6_5}
-use Rattle.transform.specs.Fit.{quad_fit, triangle_fit, zero_transform}
+use Rattle.transform.specs.Fit.{quad_fit, triangle_fit}
 use Rattle.transform.specs.declared.Point.{Point}
 use Rattle.transform.specs.declared.Triangle.{Triangle}
-use Rattle.transform.specs.declared.Fit.{Fit}
+use Rattle.transform.specs.declared.Transform.{Transform}
 use Rattle.lcr_core.specs.Outcome.{unless}
 use Rattle.lcr_core.specs.Version.{version_refusal, side_of}
 use Rattle.geometry.specs.Order.{point, centre_of}
@@ -21,30 +22,30 @@ unfoldable pub pixels_of : Corners → Triangle
 pixels_of c = record { a = centre_of c.tl; b = centre_of c.tr; c = centre_of c.bl }
 
 -- through the three finders
-unfoldable pub affine_of : Corners → Float → Fit
+unfoldable pub affine_of : Corners → Float → Option Transform
 affine_of c side = triangle_fit (modules_of side) (pixels_of c)
 
 -- through the marker too, whose centre is 6.5 modules from the far sides
-unfoldable pub homography_of : Corners → Point → Float → Fit
+unfoldable pub homography_of : Corners → Point → Float → Option Transform
 homography_of c marker side =
     let s = modules_of side in
     let d = pixels_of c in
     quad_fit (record { a = s.a; b = s.b; c = s.c; d = point (minus32 side f6_5) (minus32 side f6_5) }) (record { a = d.a; b = d.b; c = d.c; d = marker })
 
 -- the first fit that there is
-abbrev pub or_else : Fit → Fit → Fit
-or_else f g = cond f.found f g
+abbrev pub or_else : Option Transform → Option Transform → Option Transform
+or_else = option_or
 
 -- from version 2 on the homography where there is a marker; else, or where there is no homography, the affine map
-unfoldable pub symbol_fit : Corners → Option Point → ℕ → Fit
+unfoldable pub symbol_fit : Corners → Option Point → ℕ → Option Transform
 symbol_fit c None v = affine_of c (whole32 (side_of v))
 symbol_fit c (Some a) v =
     let side = whole32 (side_of v) in
     cond (ltb v 2) (affine_of c side) (or_else (homography_of c a side) (affine_of c side))
 
 -- none, as a refusal leaves it
-abbrev pub no_fit : Fit
-no_fit = record { found = false; transform = zero_transform }
+abbrev pub no_fit : Option Transform
+no_fit = None
 
 -- `build_transform`
 unfoldable pub built_of : Corners → Option Point → ℕ → Built

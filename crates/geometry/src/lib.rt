@@ -7,7 +7,7 @@ ghost use Rattle.geometry.specs.Estimate.{edge_of, side_in, nearest_version, est
 ghost use Rattle.geometry.specs.Build.{modules_of, pixels_of, affine_of, homography_of, symbol_fit, built_of};
 
 use lcr_core::version::Version;
-use transform::{Fit, Point, Quad, Transform, Triangle};
+use transform::{Point, Quad, Transform, Triangle};
 
 pub mod score;
 
@@ -28,11 +28,11 @@ pub struct Corners {
     pub bl: Finder,
 }
 
-// A transform or none, or a refusal, and then zeros.
+// A transform or none, or a refusal, and then none.
 #[derive(Clone, Copy)]
 pub struct Built {
     pub refusal: u8,
-    pub fit: Fit,
+    pub fit: Option<Transform>,
 }
 
 impl Finder {
@@ -177,14 +177,14 @@ fn pixels_of(c: Corners) -> Triangle
     }
 }
 
-fn affine(c: Corners, side: f32) -> Fit
+fn affine(c: Corners, side: f32) -> Option<Transform>
     ensures { result ≡ affine_of c side }
 {
     Transform::from_triangle(modules_of(side), pixels_of(c))
 }
 
 // Through the marker too, whose centre is 6.5 modules from the far sides.
-fn homography(c: Corners, marker: Point, side: f32) -> Fit
+fn homography(c: Corners, marker: Point, side: f32) -> Option<Transform>
     ensures { result ≡ homography_of c marker side }
 {
     let s = modules_of(side);
@@ -212,7 +212,7 @@ fn homography(c: Corners, marker: Point, side: f32) -> Fit
     )
 }
 
-fn symbol_fit(c: Corners, marker: Option<Point>, v: Version) -> Fit
+fn symbol_fit(c: Corners, marker: Option<Point>, v: Version) -> Option<Transform>
     ensures { result ≡ symbol_fit c marker v.0 }
 {
     let side = v.side() as f32;
@@ -221,11 +221,7 @@ fn symbol_fit(c: Corners, marker: Option<Point>, v: Version) -> Fit
             if v.get() < 2 {
                 return affine(c, side);
             }
-            let h = homography(c, a, side);
-            if h.found {
-                return h;
-            }
-            affine(c, side)
+            homography(c, a, side).or_else(|| affine(c, side))
         }
         None => affine(c, side),
     }
@@ -242,10 +238,7 @@ pub fn build_transform(c: Corners, marker: Option<Point>, version: Version) -> B
         },
         Err(refusal) => Built {
             refusal: u8::from(refusal),
-            fit: Fit {
-                found: false,
-                transform: Transform::zero(),
-            },
+            fit: None,
         },
     }
 }

@@ -1,5 +1,6 @@
 -- The steps of elimination and of back substitution, one turn of a loop at a time. Assumes nothing.
 use mathlib.Core.Path.{◌≡◌, refl, sym, ap, ◌∙◌, subst}
+use Rattle.std.specs.Prelude.{Some, None}
 use mathlib.Core.Logic.{⊎_elim}
 use mathlib.Core.Bool.{Bool, true, false, cond, not, ◌&&◌, ◌||◌, true≢false}
 use mathlib.Core.List.{List}
@@ -15,9 +16,8 @@ use borrow.Author.Tests.{lt-ltb, le-ltb, eq-eqb, ne_eqb, le-leb, lt-leb}
 use Rattle.float.specs.Floats.{abs_of}
 use Rattle.float.specs.Steps.{minus64, times64, over64}
 use Rattle.float.specs.Constants.{d0, d1e_12}
-use Rattle.math.specs.Solve.{Matrix, Vector, swapped, reduced, pivot_row, pivoted, row_cleared, cleared, upper, small_pivot, singular, remainder, unknowns, eight, none, solution_of}
+use Rattle.math.specs.Solve.{Matrix, Vector, swapped, reduced, pivot_row, pivoted, row_cleared, cleared, upper, small_pivot, singular, remainder, unknowns, eight, solution_of}
 use Rattle.math.specs.Table.{entry, replaced, Holds}
-use Rattle.math.specs.declared.Solution.{Solution}
 use Rattle.math.proofs.Tables.{same_or_not, replaced_here, replaced-row, replaced-column, mixed, mixed_above, mixed_start, mixed_more}
 
 -- ---- the pivot's row
@@ -219,10 +219,10 @@ not_false true h = refl
 not_false false h = absurd (true≢false (sym h))
 
 module _ (n : ℕ) (m : Matrix) (ok : Bool) (e : ok ≡ not (singular n m n)) where
-  pub found_is : ok ≡ true → (x : List Float) → x ≡ eight (unknowns n (upper n m n) n) → ◌≡◌ {A = Solution} (record { found = true; x = x }) (solution_of n m)
+  pub found_is : ok ≡ true → (x : List Float) → x ≡ eight (unknowns n (upper n m n) n) → Some x ≡ solution_of n m
   unfolding solution_of
   found_is h x g = rw (not_true (singular n m n) (sym h ∙ e), g)
 
-  pub none_is : ok ≡ false → none ≡ solution_of n m
+  pub none_is : ok ≡ false → None ≡ solution_of n m
   unfolding solution_of
   none_is h = rw (not_false (singular n m n) (sym h ∙ e))

@@ -1,13 +1,12 @@
 -- `solve` of document 005, at any size: Gaussian elimination with partial pivoting, and back substitution. Document 01: "`solve` (on fixed tables of
 -- size 6 or 8)" refuses nothing, "none" is its answer where the Rust gives `None`, and the floats handed in may be any. Steps are f64, in the order
 -- written. Definitions only.
-use Rattle.std.specs.Prelude.{Bool, true, false, cond, ◌&&◌, ◌||◌, List, [], ◌∷◌, ℕ, zero, suc, ◌+◌, ◌-◌, ◌*◌, leb, ltb, eqb, get_or, replicate, Float}
+use Rattle.std.specs.Prelude.{Bool, true, false, cond, ◌&&◌, ◌||◌, List, [], ◌∷◌, ℕ, zero, suc, ◌+◌, ◌-◌, ◌*◌, leb, ltb, eqb, get_or, Option, Some, None, Float}
 use Rattle.std.specs.Float.{nan}
 use Rattle.std.specs.Float.Ieee.{lt, eq}
 use Rattle.float.specs.Floats.{abs_of}
 use Rattle.float.specs.Steps.{minus64, times64, over64}
 use Rattle.float.specs.Constants.{d0, d1e_12}
-use Rattle.math.specs.declared.Solution.{Solution}
 
 -- ---- the system
 
@@ -88,10 +87,6 @@ unknowns n u (suc j) k =
 abbrev pub eight : Vector → List Float
 eight x = x 0 ∷ x 1 ∷ x 2 ∷ x 3 ∷ x 4 ∷ x 5 ∷ x 6 ∷ x 7 ∷ []
 
--- no solution
-abbrev pub none : Solution
-none = record { found = false; x = replicate 8 d0 }
-
 -- none where a pivot is below 1e-12; the unknowns, with zeros beyond the n that there are, where none is
-unfoldable pub solution_of : ℕ → Matrix → Solution
-solution_of n m = cond (singular n m n) none (record { found = true; x = eight (unknowns n (upper n m n) n) })
+unfoldable pub solution_of : ℕ → Matrix → Option (List Float)
+solution_of n m = cond (singular n m n) None (Some (eight (unknowns n (upper n m n) n)))

@@ -12,13 +12,6 @@ ghost use Rattle.math.specs.Table.{entry, replaced, Holds};
 
 use float::Float;
 
-// The unknowns, with zeros beyond the n that there are, and all zeros where none is found.
-#[derive(Drop)]
-pub struct Solution {
-    pub found: bool,
-    pub x: [f64; 8],
-}
-
 // ---- the table
 
 fn at(t: &[f64], r: usize, k: usize) -> f64
@@ -214,7 +207,8 @@ fn augment(t: &mut [f64], a: &[f64], b: &[f64], n: usize)
     }
 }
 
-fn solve(a: &[f64], b: &[f64], n: usize) -> Solution
+// The unknowns, with zeros beyond the n that there are, or none.
+fn solve(a: &[f64], b: &[f64], n: usize) -> Option<[f64; 8]>
     requires n_bound { n ≤ 8 }
     requires a_len { length a.now ≡ n * n }
     requires b_len { length b.now ≡ n }
@@ -223,23 +217,19 @@ fn solve(a: &[f64], b: &[f64], n: usize) -> Solution
     let mut t = [0.0; 72];
     augment(&mut t, a, b, n);
     if triangulate(&mut t, n) {
-        let x = back_substitute(&t, n);
-        Solution { found: true, x }
+        Some(back_substitute(&t, n))
     } else {
-        Solution {
-            found: false,
-            x: [0.0; 8],
-        }
+        None
     }
 }
 
-pub fn solve6(a: [f64; 36], b: [f64; 6]) -> Solution
+pub fn solve6(a: [f64; 36], b: [f64; 6]) -> Option<[f64; 8]>
     ensures { result ≡ solution_of 6 (augmented 6 a b) }
 {
     solve(&a, &b, 6)
 }
 
-pub fn solve8(a: [f64; 64], b: [f64; 8]) -> Solution
+pub fn solve8(a: [f64; 64], b: [f64; 8]) -> Option<[f64; 8]>
     ensures { result ≡ solution_of 8 (augmented 8 a b) }
 {
     solve(&a, &b, 8)

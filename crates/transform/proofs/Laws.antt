@@ -1,19 +1,17 @@
 -- The functions' results put together: each law has the values that the calls gave, and what is known of them. Assumes nothing.
-use Rattle.std.proofs.Common.{◌≡◌, ℕ, ◌-◌, Bool, false, cond, List, ◌++◌, length, get_or, replicate, sym, refl, ap, ◌∙◌}
+use Rattle.std.proofs.Common.{◌≡◌, ℕ, ◌-◌, Bool, false, cond, List, ◌++◌, length, get_or, replicate, Option, sym, refl, ap, ◌∙◌}
 use lib.Seq.{paste}
 use lib.Ieee.{Float, nan, inf, lt, eq, div, of_bits}
 use Rattle.float.specs.Floats.{abs_of, narrow_of, min_of, max_of}
 use Rattle.float.specs.Steps.{plus32, times32, over32, plus64, over64}
 use Rattle.float.specs.Constants.{f0, f1, half, f1_5, d0, d1, d1e_9}
 use Rattle.math.specs.Solve.{augmented, solution_of}
-use Rattle.math.specs.declared.Solution.{Solution}
 use Rattle.transform.specs.Fit.{widened, homography_rows, affine_rows, both, fit_of, quad_fit, triangle_fit}
 use Rattle.transform.specs.Apply.{linear_of, apart_of, projected, offset_of, divided, bent, applied, in_module, center_of, distance_of, pitch_at, pitches_of}
 use Rattle.transform.specs.declared.Point.{Point}
 use Rattle.transform.specs.declared.Wide.{Wide}
 use Rattle.transform.specs.declared.Triangle.{Triangle}
 use Rattle.transform.specs.declared.Quad.{Quad}
-use Rattle.transform.specs.declared.Fit.{Fit}
 use Rattle.transform.specs.declared.Transform.{Transform}
 use Rattle.transform.specs.declared.Pitches.{Pitches}
 
@@ -34,16 +32,16 @@ module _ (w₀ w₁ w₂ : Wide) (r₀ r₁ r₂ a₁ a₂ a₃ : List Float) wh
       → a₁ ≡ paste (replicate 36 d0) 0 r₀ (length r₀) → a₂ ≡ paste a₁ 12 r₁ (length r₁) → a₃ ≡ paste a₂ 24 r₂ (length r₂) → a₃ ≡ affine_rows w₀ ++ affine_rows w₁ ++ affine_rows w₂
   triangle_table g₀ g₁ g₂ e₁ e₂ e₃ = rw (e₃, e₂, e₁, g₀, g₁, g₂)
 
-pub quad_is : (s d : Quad) (w₀ w₁ w₂ w₃ d₀ d₁ d₂ d₃ : Wide) (a : List Float) (r : Solution) → w₀ ≡ widened s.a → w₁ ≡ widened s.b → w₂ ≡ widened s.c → w₃ ≡ widened s.d
+pub quad_is : (s d : Quad) (w₀ w₁ w₂ w₃ d₀ d₁ d₂ d₃ : Wide) (a : List Float) (r : Option (List Float)) → w₀ ≡ widened s.a → w₁ ≡ widened s.b → w₂ ≡ widened s.c → w₃ ≡ widened s.d
     → d₀ ≡ widened d.a → d₁ ≡ widened d.b → d₂ ≡ widened d.c → d₃ ≡ widened d.d
     → a ≡ homography_rows w₀ d₀ ++ homography_rows w₁ d₁ ++ homography_rows w₂ d₂ ++ homography_rows w₃ d₃
-    → r ≡ solution_of 8 (augmented 8 a (both d₀ ++ both d₁ ++ both d₂ ++ both d₃)) → (f : Fit) → f ≡ fit_of r → f ≡ quad_fit s d
+    → r ≡ solution_of 8 (augmented 8 a (both d₀ ++ both d₁ ++ both d₂ ++ both d₃)) → (f : Option Transform) → f ≡ fit_of r → f ≡ quad_fit s d
 unfolding quad_fit
 quad_is s d w₀ w₁ w₂ w₃ d₀ d₁ d₂ d₃ a r e₀ e₁ e₂ e₃ g₀ g₁ g₂ g₃ t h f k = cc
 
-pub triangle_is : (s d : Triangle) (w₀ w₁ w₂ d₀ d₁ d₂ : Wide) (a : List Float) (r : Solution) → w₀ ≡ widened s.a → w₁ ≡ widened s.b → w₂ ≡ widened s.c
+pub triangle_is : (s d : Triangle) (w₀ w₁ w₂ d₀ d₁ d₂ : Wide) (a : List Float) (r : Option (List Float)) → w₀ ≡ widened s.a → w₁ ≡ widened s.b → w₂ ≡ widened s.c
     → d₀ ≡ widened d.a → d₁ ≡ widened d.b → d₂ ≡ widened d.c → a ≡ affine_rows w₀ ++ affine_rows w₁ ++ affine_rows w₂
-    → r ≡ solution_of 6 (augmented 6 a (both d₀ ++ both d₁ ++ both d₂)) → (f : Fit) → f ≡ fit_of r → f ≡ triangle_fit s d
+    → r ≡ solution_of 6 (augmented 6 a (both d₀ ++ both d₁ ++ both d₂)) → (f : Option Transform) → f ≡ fit_of r → f ≡ triangle_fit s d
 unfolding triangle_fit
 triangle_is s d w₀ w₁ w₂ d₀ d₁ d₂ a r e₀ e₁ e₂ g₀ g₁ g₂ t h f k = cc
 

@@ -1,11 +1,11 @@
 -- What the definitions say of the lens (document 02, N12): "Strength 0 gives the old bits for any centre"; which strengths are 0; what a not-a-number gives;
 -- and that fitted transforms have no lens. Assumes nothing.
-use Rattle.std.proofs.Common.{◌≡◌, ℕ, ◌-◌, true, false, sym, refl, ◌∙◌}
+use Rattle.std.proofs.Common.{◌≡◌, ℕ, ◌-◌, true, false, List, Option, Some, None, IfSome, sym, refl, ◌∙◌}
 use lib.Ieee.{Float, nan, inf, fin, neg, eq, of_bits, add, mul, div}
 use Rattle.float.specs.Floats.{narrow_of}
 use Rattle.float.specs.Steps.{plus32, whole32, plus64, over64}
 use Rattle.float.specs.Constants.{half, f1_5, d0, d1}
-use Rattle.transform.specs.Fit.{plain, Plain, quad_fit, triangle_fit}
+use Rattle.transform.specs.Fit.{plain, Plain, fit_of, quad_fit, triangle_fit}
 use Rattle.transform.specs.Apply.{placed, divided, bent, applied, in_module, center_of, pitch_at, pitches_of}
 use Rattle.transform.specs.declared.Quad.{Quad}
 use Rattle.transform.specs.declared.Transform.{Transform}
@@ -74,10 +74,14 @@ unfolding applied bent narrow_of
 strength_nan t u v e = rw (e, nan_not_zero, divided-nan _ _, plus_nan t.cx, plus_nan t.cy)
 
 -- ---- fitted transforms have no lens
-pub quad_plain : (s d : Quad) → Plain (quad_fit s d).transform
-unfolding quad_fit
-quad_plain s d = refl
+fitted_plain : (s : Option (List Float)) → IfSome (fit_of s) Plain
+fitted_plain None = tt
+fitted_plain (Some m) = refl
 
-pub triangle_plain : (s d : Triangle) → Plain (triangle_fit s d).transform
+pub quad_plain : (s d : Quad) → IfSome (quad_fit s d) Plain
+unfolding quad_fit
+quad_plain s d = fitted_plain _
+
+pub triangle_plain : (s d : Triangle) → IfSome (triangle_fit s d) Plain
 unfolding triangle_fit
-triangle_plain s d = refl
+triangle_plain s d = fitted_plain _

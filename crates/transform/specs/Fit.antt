@@ -1,18 +1,16 @@
 -- The map from modules to pixels (`Transform` of document 002), first how it is fitted: the linear equations of a homography
 -- through four points, and of an affine map through three. Document 01: `Transform` refuses nothing, "none" is its answer where the Rust gives `None`,
 -- and the floats handed in may be any. Steps are f64. Definitions only.
-use Rattle.std.specs.Prelude.{◌≡◌, List, [], ◌∷◌, ◌++◌, replicate, Float}
+use Rattle.std.specs.Prelude.{◌≡◌, List, [], ◌∷◌, ◌++◌, replicate, Float, Option, option_map}
 use Rattle.std.specs.Float.Ieee.{neg}
 use Rattle.float.specs.Steps.{times64}
 use Rattle.float.specs.Constants.{d0, d1}
 use Rattle.math.specs.Solve.{augmented, solution_of}
-use Rattle.math.specs.declared.Solution.{Solution}
 use Rattle.transform.specs.declared.Point.{Point}
 use Rattle.transform.specs.declared.Wide.{Wide}
 use Rattle.transform.specs.declared.Triangle.{Triangle}
 use Rattle.transform.specs.declared.Quad.{Quad}
 use Rattle.transform.specs.declared.Transform.{Transform}
-use Rattle.transform.specs.declared.Fit.{Fit}
 
 -- eight numbers without a lens: its centre (0, 0), its strength 0
 abbrev pub plain : List Float → Transform
@@ -49,18 +47,18 @@ abbrev pub both : Wide → List Float
 both d = d.x ∷ d.y ∷ []
 
 -- the transform of a solution; the affine map's m6 and m7 are the zeros beyond six unknowns
-abbrev pub fit_of : Solution → Fit
-fit_of s = record { found = s.found; transform = plain s.x }
+abbrev pub fit_of : Option (List Float) → Option Transform
+fit_of = option_map plain
 
 -- `from_quad`: the points of s go to those of d
-unfoldable pub quad_fit : Quad → Quad → Fit
+unfoldable pub quad_fit : Quad → Quad → Option Transform
 quad_fit s d =
     let rows : Point → Point → List Float = λ p q. homography_rows (widened p) (widened q) in
     let sides : Point → List Float = λ q. both (widened q) in
     fit_of (solution_of 8 (augmented 8 (rows s.a d.a ++ rows s.b d.b ++ rows s.c d.c ++ rows s.d d.d) (sides d.a ++ sides d.b ++ sides d.c ++ sides d.d)))
 
 -- `from_triangle`
-unfoldable pub triangle_fit : Triangle → Triangle → Fit
+unfoldable pub triangle_fit : Triangle → Triangle → Option Transform
 triangle_fit s d =
     let rows : Point → List Float = λ p. affine_rows (widened p) in
     let sides : Point → List Float = λ q. both (widened q) in

@@ -3,7 +3,7 @@
 
 ghost use Rattle.std.specs.Prelude.{◌≡◌, ◌+◌, ◌≤◌, length};
 ghost use Rattle.std.proofs.Math.Seq.{paste as pasted};
-ghost use Rattle.transform.specs.Fit.{plain, zero_transform, identity_transform, widened, homography_rows, affine_rows, fit_of, quad_fit, triangle_fit};
+ghost use Rattle.transform.specs.Fit.{plain, zero_transform, identity_transform, widened, homography_rows, affine_rows, quad_fit, triangle_fit};
 ghost use Rattle.transform.specs.Apply.{linear_of, apart_of, projected, narrowed, placed, offset_of, divided, bent, applied, with_radial, center_of, distance2_of, distance_of, pitch_at, pitches_of};
 
 use float::Float;
@@ -37,13 +37,6 @@ pub struct Transform {
     pub cx: f64,
     pub cy: f64,
     pub strength: f64,
-}
-
-// A transform, or none, and then zeros.
-#[derive(Clone, Copy)]
-pub struct Fit {
-    pub found: bool,
-    pub transform: Transform,
 }
 
 // The least and the greatest module pitch of a symbol's corners.
@@ -103,17 +96,6 @@ fn affine_rows(s: Wide) -> [f64; 12]
     [s.x, s.y, 1.0, 0.0, 0.0, 0.0, 0.0, 0.0, 0.0, s.x, s.y, 1.0]
 }
 
-// The transform of a solution.
-fn fitted(s: math::Solution) -> Fit
-    ensures { result ≡ fit_of s }
-{
-    let m = s.x;
-    Fit {
-        found: s.found,
-        transform: Transform::plain(m),
-    }
-}
-
 fn paste(d: &mut [f64], at: usize, s: &[f64])
     requires { at + length s.now ≤ length d.old }
     ensures { d.new ≡ pasted d.old at s.now (length s.now) }
@@ -160,7 +142,7 @@ impl Transform {
     }
 
     // The homography that takes the four points of src to those of dst, or none.
-    pub fn from_quad(src: Quad, dst: Quad) -> Fit
+    pub fn from_quad(src: Quad, dst: Quad) -> Option<Transform>
         ensures { result ≡ quad_fit src dst }
     {
         let d0 = widen(dst.a);
@@ -176,11 +158,12 @@ impl Transform {
         paste(&mut a, 16, &r1);
         paste(&mut a, 32, &r2);
         paste(&mut a, 48, &r3);
-        fitted(math::solve8(a, [d0.x, d0.y, d1.x, d1.y, d2.x, d2.y, d3.x, d3.y]))
+        let b = [d0.x, d0.y, d1.x, d1.y, d2.x, d2.y, d3.x, d3.y];
+        math::solve8(a, b).map(Transform::plain)
     }
 
     // The affine map that takes the three points of src to those of dst, or none.
-    pub fn from_triangle(src: Triangle, dst: Triangle) -> Fit
+    pub fn from_triangle(src: Triangle, dst: Triangle) -> Option<Transform>
         ensures { result ≡ triangle_fit src dst }
     {
         let d0 = widen(dst.a);
@@ -193,7 +176,8 @@ impl Transform {
         paste(&mut a, 0, &r0);
         paste(&mut a, 12, &r1);
         paste(&mut a, 24, &r2);
-        fitted(math::solve6(a, [d0.x, d0.y, d1.x, d1.y, d2.x, d2.y]))
+        let b = [d0.x, d0.y, d1.x, d1.y, d2.x, d2.y];
+        math::solve6(a, b).map(Transform::plain)
     }
 
     // Where p goes, in f64.

@@ -6,4 +6,4 @@ pub returns-in-Ok : goal.returns-in-Ok
 returns-in-Ok c = built _ _ _ _ (c.new.ensures.version, c.new.ensures.number) _ _ c.in-Ok.is c.symbol_fit.ensures
 
 pub returns-in-Err : goal.returns-in-Err
-returns-in-Err c = not_built _ _ _ _ (c.new.ensures.version, c.new.ensures.number) _ _ _ c.in-Err.is c.from.ensures c.zero.ensures
+returns-in-Err c = not_built _ _ _ _ (c.new.ensures.version, c.new.ensures.number) _ _ c.in-Err.is c.from.ensures

@@ -8,7 +8,7 @@ returns-then-triangulate c =
     let a = c.args in
     let m = augmented a.n a.a.now a.b.now in
     found_is a.n m _ (c.triangulate.ensures.value m c.augment.ensures) c.if-triangulate.true _
-    (c.back_substitute-x.ensures (upper a.n m a.n) (c.triangulate.ensures.holds m c.if-triangulate.true c.augment.ensures))
+    (c.back_substitute.ensures (upper a.n m a.n) (c.triangulate.ensures.holds m c.if-triangulate.true c.augment.ensures))
 
 pub returns-else-triangulate : goal.returns-else-triangulate
 returns-else-triangulate c =
