@@ -1,8 +1,7 @@
 -- What refining answers where it is refused, and where it is not. Assumes nothing.
-use Rattle.std.specs.Prelude.{Option, None}
-use mathlib.Core.Path.{◌≡◌, refl, ap}
+use Rattle.std.proofs.Common.{Option, None, unwrap_or}
+use mathlib.Core.Path.{◌≡◌, refl}
 use mathlib.Core.Bool.{true, false}
-use Rattle.std.proofs.Common.{unwrap_or}
 use Prim.Native.Nat.{ℕ, zero, suc}
 use Rattle.transform.specs.Fit.{zero_transform}
 use Rattle.transform.specs.declared.Transform.{Transform}

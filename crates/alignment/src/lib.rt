@@ -135,7 +135,9 @@ fn rebuilt(corners: Corners, marker: Option<Point>, version: Version, transform:
     ensures { result ≡ rebuilt_of corners marker version.0 transform }
 {
     if is_found(marker) {
-        build_transform(corners, marker, version).fit.unwrap_or(transform)
+        build_transform(corners, marker, version)
+            .fit
+            .unwrap_or(transform)
     } else {
         transform
     }

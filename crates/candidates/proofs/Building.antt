@@ -1,12 +1,9 @@
 -- The steps of `build_detection`, as the code takes them. Assumes nothing.
-use Rattle.std.specs.Prelude.{Option, Some, None}
-use mathlib.Core.Path.{◌≡◌, refl, sym, ◌∙◌, ap}
-use mathlib.Core.Bool.{Bool, true, false, not, cond}
+use Rattle.std.proofs.Common.{◌≡◌, true, Option, Some, None, refl, ◌∙◌}
 use mathlib.Core.List.{List}
 use Prim.Native.Nat.{ℕ}
 use lib.Ieee.{Float}
 use Rattle.lcr_core.specs.declared.version.Version.{Version}
-use Rattle.transform.specs.declared.Fit.{Fit}
 use Rattle.transform.specs.declared.Transform.{Transform}
 use Rattle.geometry.specs.declared.Built.{Built as Transformed}
 use Rattle.geometry.specs.declared.Corners.{Corners}
@@ -17,56 +14,43 @@ use Rattle.rows.specs.declared.Located.{Located}
 use Rattle.alignment.specs.declared.Refined.{Refined}
 use Rattle.alignment.specs.Alignment.{locate_of, refine_of}
 use Rattle.candidates.specs.declared.Built.{Built}
-use Rattle.candidates.specs.Detection.{none, fit_with, marker_by, refined_from, build_with, build_of}
+use Rattle.candidates.specs.Detection.{none, by_fit, fit_with, marker_by, refined_from, build_with, build_of}
 
-is_true : (b : Bool) → not b ≡ false → b ≡ true
-is_true true h = refl
-is_true false h = sym h
+-- what `by_fit` is where there is no transform, and where there is one
+at_none : (o : Option Transform) (build : Transform → Built) → o ≡ None → none ≡ by_fit o build
+at_none None build e = refl
+at_none (Some t) build e = cc
 
-is_false : (b : Bool) → not b ≡ true → b ≡ false
-is_false true h = sym h
-is_false false h = refl
-
-cond_true : {A : Type 0} (b : Bool) (x y : A) → b ≡ true → x ≡ cond b x y
-cond_true b x y e = rw e
-
-cond_false : {A : Type 0} (b : Bool) (x y : A) → b ≡ false → y ≡ cond b x y
-cond_false b x y e = rw e
+at_some : (o : Option Transform) (build : Transform → Built) (t : Transform) → o ≡ Some t → build t ≡ by_fit o build
+at_some None build t e = cc
+at_some (Some u) build t e = cc
 
 module _ (bits : List ℕ) (w h : ℕ) (c : Corners) (s : Float) (v : Version) (m : Float) (em : m ≡ mean_of c.tl c.tr c.bl) (rough : Transformed) (er : rough ≡ built_of c None v.0) where
-  pub rough_none : not rough.fit.found ≡ true → (r : Built) → r ≡ none → r ≡ build_with bits w h c s v.0
+  roughly : fit_with bits w h c None v.0 ≡ rough.fit
+  roughly = rw er
+
+  pub rough_none : rough.fit ≡ None → (r : Built) → r ≡ none → r ≡ build_with bits w h c s v.0
   unfolding build_with
-  rough_none f r e = e ∙ cond_false (fit_with bits w h c None v.0).found _ none (sym (ap (λ (b : Transformed). b.fit.found) er) ∙ is_false rough.fit.found f)
+  rough_none f r e = e ∙ at_none _ _ (roughly ∙ f)
 
-  module _ (t : not rough.fit.found ≡ false) (located : Located) (el : located ≡ locate_of bits w h rough.fit.transform v.0 m) (built : Transformed) (eb : built ≡ built_of c located.marker v.0) where
-    -- the two transforms, by the definitions
-    abbrev roughly : Fit
-    roughly = fit_with bits w h c None v.0
+  module _ (t : Transform) (et : rough.fit ≡ Some t) (located : Located) (el : located ≡ locate_of bits w h t v.0 m) (built : Transformed) (eb : built ≡ built_of c located.marker v.0) where
+    same_fit : fit_with bits w h c (marker_by bits w h c t v.0) v.0 ≡ built.fit
+    same_fit = rw (eb, el, em)
 
-    abbrev fitted : Fit
-    fitted = fit_with bits w h c (marker_by bits w h c roughly.transform v.0) v.0
-
-    was_rough : roughly.found ≡ true
-    was_rough = sym (ap (λ (b : Transformed). b.fit.found) er) ∙ is_true rough.fit.found t
-
-    same_fit : built.fit ≡ fitted
-    same_fit =
-        ap (λ (b : Transformed). b.fit) (eb ∙ ap (λ (l : Located). built_of c l.marker v.0) (el ∙ ap (λ (x : Transform). locate_of bits w h x v.0 m) (ap (λ (b : Transformed). b.fit.transform) er) ∙ ap (λ (x : Float). locate_of bits w h roughly.transform v.0 x) em))
-
-    pub fit_none : not built.fit.found ≡ true → (r : Built) → r ≡ none → r ≡ build_with bits w h c s v.0
+    pub fit_none : built.fit ≡ None → (r : Built) → r ≡ none → r ≡ build_with bits w h c s v.0
     unfolding build_with
-    fit_none f r e = e ∙ cond_false fitted.found (refined_from bits w h c s fitted.transform v.0) none (sym (ap (λ (x : Fit). x.found) same_fit) ∙ is_false built.fit.found f) ∙ cond_true roughly.found _ none was_rough
+    fit_none f r e = e ∙ at_none _ _ (same_fit ∙ f) ∙ at_some _ _ t (roughly ∙ et)
 
     -- the detection from what the refinement answers and the mean module
     abbrev made : Refined → Float → Built
     made r x = record { found = true; detection = record { finders = c; marker = r.marker; version = v; transform = r.transform; score = s; mean = x } }
 
-    pub complete : not built.fit.found ≡ false → (r : Refined) → r ≡ refine_of bits w h c v.0 built.fit.transform m → made r m ≡ build_with bits w h c s v.0
+    pub complete : (u : Transform) → built.fit ≡ Some u → (r : Refined) → r ≡ refine_of bits w h c v.0 u m → made r m ≡ build_with bits w h c s v.0
     unfolding build_with
-    complete f r e =
-        ap (made r) em
-        ∙ ap (λ (r : Refined). made r (mean_of c.tl c.tr c.bl)) (e ∙ ap (λ (x : Fit). refine_of bits w h c v.0 x.transform m) same_fit ∙ ap (refine_of bits w h c v.0 fitted.transform) em)
-        ∙ cond_true fitted.found (refined_from bits w h c s fitted.transform v.0) none (sym (ap (λ (x : Fit). x.found) same_fit) ∙ is_true built.fit.found f) ∙ cond_true roughly.found _ none was_rough
+    complete u f r e = done ∙ at_some _ _ u (same_fit ∙ f) ∙ at_some _ _ t (roughly ∙ et)
+      where
+        done : made r m ≡ refined_from bits w h c s u v.0
+        done = rw (e, em)
 
 module _ (bits : List ℕ) (w h : ℕ) (c : Corners) (s : Float) (found : Option Version) (e : found ≡ estimate_of c) (r : Built) where
   pub of_version : (v : Version) → found ≡ Some v → r ≡ build_with bits w h c s v.0 → r ≡ build_of bits w h c s

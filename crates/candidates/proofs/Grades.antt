@@ -2,6 +2,7 @@
 -- left out in between; of the list, and of what `candidates_from`, `detect_candidates` and `detect` answer. Assumes nothing.
 use Rattle.std.specs.Prelude.{Option, Some, None}
 use mathlib.Core.Path.{◌≡◌, refl, sym, ap, subst, ◌∙◌}
+use Rattle.transform.specs.declared.Transform.{Transform}
 use mathlib.Core.Bool.{Bool, true, false, cond, true≢false}
 use mathlib.Core.List.{List, [], ◌∷◌, ◌++◌}
 use Prim.Native.Nat.{ℕ, zero, suc, ◌<◌}
@@ -14,7 +15,6 @@ use Rattle.lists.specs.Lists.{Each, Some as Exists, flat_map}
 use Rattle.lists.proofs.Filters.{each_map, each_both, each_get_or, each_from, each_among, some_map}
 use Rattle.lists.proofs.Padded.{get_or-padded, get_or_table}
 use Rattle.lcr_core.specs.Outcome.{unless}
-use Rattle.lcr_core.proofs.Checks.{either}
 use Rattle.binary.specs.Refusal.{bits_refusal}
 use Rattle.float.specs.Constants.{f0}
 use Rattle.float.specs.Floats.{is_number}
@@ -31,7 +31,7 @@ use Rattle.candidates.specs.declared.Built.{Built}
 use Rattle.candidates.specs.declared.Detection.{Detection}
 use Rattle.candidates.specs.declared.Detections.{Detections}
 use Rattle.candidates.specs.declared.First.{First}
-use Rattle.candidates.specs.Detection.{zero_detection, none, fit_with, marker_by, refined_from, build_with, build_for, build_of}
+use Rattle.candidates.specs.Detection.{zero_detection, none, by_fit, fit_with, marker_by, build_with, build_for, build_of}
 use Rattle.candidates.specs.Candidates.{corners_of, kept, detection_of, detections_of, table_of, from_answer, detect_answer, detect_first}
 use Rattle.candidates.specs.Graded.{place_in, Graded, AllGraded}
 use Rattle.candidates.proofs.Answers.{first_found}
@@ -47,11 +47,11 @@ module _ (bits : List ℕ) (w h : ℕ) (c : Corners) (s : Float) where
 
   carried_with : (v : ℕ) → Carries (build_with bits w h c s v)
   unfolding build_with
-  carried_with v =
-      let rough = fit_with bits w h c None v in
-      let fit = fit_with bits w h c (marker_by bits w h c rough.transform v) v in
-      let b = refined_from bits w h c s fit.transform v in
-      either Carries rough.found (cond fit.found b none) none (either Carries fit.found b none (λ _. (refl, refl, refl)) nothing) nothing
+  carried_with v = by (fit_with bits w h c None v) _ (λ rough. by (fit_with bits w h c (marker_by bits w h c rough v) v) _ (λ t _. (refl, refl, refl)))
+    where
+      by : (f : Option Transform) (build : Transform → Built) → ((t : Transform) → Carries (build t)) → Carries (by_fit f build)
+      by None build h = nothing
+      by (Some t) build h = h t
 
   carried : Carries (build_of bits w h c s)
   unfolding build_of

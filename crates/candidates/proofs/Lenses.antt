@@ -1,8 +1,8 @@
 -- No detection has a lens (document 02, N12: "transforms built from finders have strength 0"): centre and strength are 0 at each of the three places that
 -- `candidates_from` and `detect_candidates` answer, and in what `detect` answers, refused or not, so that the eight numbers say all. Assumes nothing.
 use Rattle.std.specs.Prelude.{Option, Some, None}
-use mathlib.Core.Path.{refl}
-use mathlib.Core.Bool.{cond}
+use mathlib.Core.Path.{◌≡◌, refl}
+use Rattle.transform.specs.declared.Transform.{Transform}
 use mathlib.Core.List.{List, [], ◌∷◌}
 use Prim.Native.Nat.{ℕ, zero, suc, ◌-◌}
 use lib.Ieee.{Float}
@@ -10,7 +10,6 @@ use lib.ListN.{length, replicate}
 use Rattle.lists.specs.Lists.{Each}
 use Rattle.lists.proofs.Filters.{each_append, each_map, each_among}
 use Rattle.lcr_core.specs.Outcome.{unless}
-use Rattle.lcr_core.proofs.Checks.{either}
 use Rattle.binary.specs.Refusal.{bits_refusal}
 use Rattle.geometry.specs.declared.Corners.{Corners}
 use Rattle.geometry.specs.declared.Finder.{Finder}
@@ -23,7 +22,7 @@ use Rattle.ranking.specs.declared.Triple.{Triple}
 use Rattle.ranking.specs.Ranking.{ranked}
 use Rattle.candidates.specs.declared.Built.{Built}
 use Rattle.candidates.specs.declared.Detection.{Detection}
-use Rattle.candidates.specs.Detection.{zero_detection, WithoutLens, none, fit_with, marker_by, refined_from, build_with, build_for, build_of}
+use Rattle.candidates.specs.Detection.{zero_detection, WithoutLens, by_fit, fit_with, marker_by, build_with, build_for, build_of}
 use Rattle.candidates.specs.Candidates.{corners_of, detection_of, detections_of, table_of, first, from_answer, detect_answer, detect_first}
 use Rattle.candidates.proofs.Grades.{each_kept}
 use Rattle.lcr_core.specs.declared.version.Version.{Version}
@@ -36,12 +35,14 @@ module _ (bits : List ℕ) (w h : ℕ) (c : Corners) (s : Float) where
   with_plain : (v : ℕ) → WithoutLens (build_with bits w h c s v).detection
   unfolding build_with
   with_plain v =
-      let m = mean_of c.tl c.tr c.bl in
-      let rough = fit_with bits w h c None v in
-      let a = marker_by bits w h c rough.transform v in
-      let fit = fit_with bits w h c a v in
-      let b = refined_from bits w h c s fit.transform v in
-      either PlainBuilt rough.found (cond fit.found b none) none (either PlainBuilt fit.found b none (refined-plain bits w h c v fit.transform m (built_plain c a v)) refl) refl
+      by (fit_with bits w h c None v) _
+      (λ rough _.
+      let a = marker_by bits w h c rough v in
+      by (fit_with bits w h c a v) _ (λ t e. refined-plain bits w h c v t (mean_of c.tl c.tr c.bl) (rw e at (built_plain c a v))))
+    where
+      by : (f : Option Transform) (build : Transform → Built) → ((t : Transform) → f ≡ Some t → PlainBuilt (build t)) → PlainBuilt (by_fit f build)
+      by None build h = refl
+      by (Some t) build h = h t refl
 
   build_plain : WithoutLens (build_of bits w h c s).detection
   unfolding build_of

@@ -48,7 +48,7 @@ use Rattle.ranking.specs.declared.Triple.{Triple}
 use Rattle.ranking.specs.Ranking.{ranked as rankedTriples}
 use Rattle.candidates.specs.declared.Detection.{Detection}
 use Rattle.candidates.specs.declared.Built.{Built}
-use Rattle.candidates.specs.Detection.{none, build_with, build_of, build_for}
+use Rattle.candidates.specs.Detection.{by_fit, build_with, build_of, build_for}
 use Rattle.candidates.specs.Candidates.{corners_of, kept, detection_of, detections_of, answered, detect_answer}
 use Rattle.lcr_core.specs.declared.version.Version.{Version}
 
@@ -133,10 +133,8 @@ column_through down across x centre m =
 -- what a detection is made of: the marker by a transform, and the refinement from one
 abbrev build_by : (Transform → Option Point) → (Transform → Refined) → Corners → Float → ℕ → Built
 build_by locate refine c s v =
-    let rough = (built_of c None v).fit in
-    let fit = (built_of c (locate rough.transform) v).fit in
-    let r = refine fit.transform in
-    cond rough.found (cond fit.found (record { found = true; detection = record { finders = c; marker = r.marker; version = record { 0 = v }; transform = r.transform; score = s; mean = mean_of c.tl c.tr c.bl } }) none) none
+    let made : Refined → Built = λ r. record { found = true; detection = record { finders = c; marker = r.marker; version = record { 0 = v }; transform = r.transform; score = s; mean = mean_of c.tl c.tr c.bl } } in
+    by_fit (built_of c None v).fit (λ rough. by_fit (built_of c (locate rough) v).fit (λ t. made (refine t)))
 
 -- the window of the search along rows lies in the picture
 end_within : (p : Point) (m : Float) (w h : ℕ) → (window_of p m w h).end ≤ w

@@ -1,9 +1,8 @@
 -- What three ordered finders give when built: `build_detection` of document 000, step by step (document 01: "A ranked triple can't be built exactly where
 -- the rules of `build_detection` .. give none for its finders and the picture's bits"). In a call that isn't refused no step is (proofs/Theorems.antt).
 -- Document 02, N8: "Each detection carries its triple's score and mean module". Definitions only.
-use Rattle.std.specs.Prelude.{true, false, cond, List, ℕ, Float, Option, Some, None}
+use Rattle.std.specs.Prelude.{true, false, List, ℕ, Float, Option, Some, None}
 use Rattle.float.specs.Constants.{f0}
-use Rattle.transform.specs.declared.Fit.{Fit}
 use Rattle.transform.specs.declared.Transform.{Transform}
 use Rattle.transform.specs.Fit.{zero_transform, Plain}
 use Rattle.geometry.specs.declared.Corners.{Corners}
@@ -37,6 +36,11 @@ WithoutLens d = Plain d.transform
 abbrev pub none : Built
 none = record { found = false; detection = zero_detection }
 
+-- what is built by the transform, if there is one
+abbrev pub by_fit : Option Transform → (Transform → Built) → Built
+by_fit None build = none
+by_fit (Some t) build = build t
+
 -- of a picture of w × h pixels and finders c
 module _ (bits : List ℕ) (w h : ℕ) (c : Corners) where
   -- the mean module, from top left, top right and bottom left in this order
@@ -44,7 +48,7 @@ module _ (bits : List ℕ) (w h : ℕ) (c : Corners) where
   mean = mean_of c.tl c.tr c.bl
 
   -- the transform for version v through the finders and a marker, if there is one
-  abbrev pub fit_with : Option Point → ℕ → Fit
+  abbrev pub fit_with : Option Point → ℕ → Option Transform
   fit_with m v = (built_of c m v).fit
 
   -- the marker, looked for through the transform t
@@ -61,10 +65,7 @@ module _ (bits : List ℕ) (w h : ℕ) (c : Corners) where
 
     -- for version v: a rough transform through the finders alone, the marker by it, and the transform through both
     unfoldable pub build_with : ℕ → Built
-    build_with v =
-        let rough = fit_with None v in
-        let fit = fit_with (marker_by rough.transform v) v in
-        cond rough.found (cond fit.found (refined_from fit.transform v) none) none
+    build_with v = by_fit (fit_with None v) (λ rough. by_fit (fit_with (marker_by rough v) v) (λ t. refined_from t v))
 
     -- for the version that the finders imply, if they imply one
     abbrev pub build_for : Option Version → Built

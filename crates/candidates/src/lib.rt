@@ -90,18 +90,14 @@ fn build_with(bits: &[u8], width: u32, height: u32, c: Corners, score: f32, v: V
 {
     let mean = geometry::score::mean_module(c.tl, c.tr, c.bl);
     // Predict the marker by the finders alone, then look for it there.
-    let rough = geometry::build_transform(c, None, v).fit;
-    if !rough.found {
+    let Some(rough) = geometry::build_transform(c, None, v).fit else {
         return nothing_built();
-    }
-    let rough_transform = rough.transform;
-    let located = alignment::locate_alignment(bits, width, height, rough_transform, v, mean);
+    };
+    let located = alignment::locate_alignment(bits, width, height, rough, v, mean);
     let marker = located.marker;
-    let fit = geometry::build_transform(c, marker, v).fit;
-    if !fit.found {
+    let Some(transform) = geometry::build_transform(c, marker, v).fit else {
         return nothing_built();
-    }
-    let transform = fit.transform;
+    };
     let refined = alignment::refine_alignment(bits, width, height, c, v, transform, mean);
     let last_marker = refined.marker;
     let last_transform = refined.transform;

@@ -1,7 +1,7 @@
 -- `solve` of document 005, at any size: Gaussian elimination with partial pivoting, and back substitution. Document 01: "`solve` (on fixed tables of
 -- size 6 or 8)" refuses nothing, "none" is its answer where the Rust gives `None`, and the floats handed in may be any. Steps are f64, in the order
 -- written. Definitions only.
-use Rattle.std.specs.Prelude.{Bool, true, false, cond, ◌&&◌, ◌||◌, List, [], ◌∷◌, ℕ, zero, suc, ◌+◌, ◌-◌, ◌*◌, leb, ltb, eqb, get_or, Option, Some, None, Float}
+use Rattle.std.specs.Prelude.{Bool, false, cond, ◌&&◌, ◌||◌, List, [], ◌∷◌, ℕ, zero, suc, ◌+◌, ◌-◌, ◌*◌, leb, ltb, eqb, get_or, Option, Some, None, Float}
 use Rattle.std.specs.Float.{nan}
 use Rattle.std.specs.Float.Ieee.{lt, eq}
 use Rattle.float.specs.Floats.{abs_of}

@@ -5,24 +5,21 @@ use transform::{Point, Quad, Transform, Triangle};
 
 fn solve6(p: &[u8], out: &mut [u8]) -> usize {
     let s = math::solve6(values::doubles_at(p, 0), values::doubles_at(p, 288));
-    values::put_flag(out, 0, s.found);
-    let x = s.x;
-    values::put_doubles(out, 1, x);
+    values::put_flag(out, 0, s.is_some());
+    values::put_doubles(out, 1, s.unwrap_or([0.0; 8]));
     49
 }
 
 fn solve8(p: &[u8], out: &mut [u8]) -> usize {
     let s = math::solve8(values::doubles_at(p, 0), values::doubles_at(p, 512));
-    values::put_flag(out, 0, s.found);
-    let x = s.x;
-    values::put_doubles(out, 1, x);
+    values::put_flag(out, 0, s.is_some());
+    values::put_doubles(out, 1, s.unwrap_or([0.0; 8]));
     65
 }
 
-fn put_fit(out: &mut [u8], f: transform::Fit) -> usize {
-    values::put_flag(out, 0, f.found);
-    let t = f.transform;
-    values::put_transform(out, 1, t);
+fn put_fit(out: &mut [u8], fit: Option<Transform>) -> usize {
+    values::put_flag(out, 0, fit.is_some());
+    values::put_transform(out, 1, fit.unwrap_or(Transform::zero()));
     65
 }
 
@@ -125,10 +122,9 @@ fn build_transform(p: &[u8], out: &mut [u8]) -> usize {
     let version = little_endian::get::<u8>(p, 57);
     let b = geometry::build_transform(values::corners_at(p, 0), marker_at(p, 48), Version(version));
     little_endian::put::<u8>(out, 0, b.refusal);
-    let f = b.fit;
-    values::put_flag(out, 1, f.found);
-    let t = f.transform;
-    values::put_transform(out, 2, t);
+    let fit = b.fit;
+    values::put_flag(out, 1, fit.is_some());
+    values::put_transform(out, 2, fit.unwrap_or(Transform::zero()));
     66
 }
 
