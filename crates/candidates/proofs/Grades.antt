@@ -1,6 +1,6 @@
 -- Score and mean module of the detections (document 02, N8): those of the finders they have, scores never falling from one to the next, whatever triples were
 -- left out in between; of the list, and of what `candidates_from`, `detect_candidates` and `detect` answer. Assumes nothing.
-use Rattle.std.specs.Prelude.{Option, Some, None}
+use Rattle.std.specs.Prelude.{Option, Some as Is, None}
 use mathlib.Core.Path.{◌≡◌, refl, sym, ap, subst, ◌∙◌}
 use Rattle.transform.specs.declared.Transform.{Transform}
 use mathlib.Core.Bool.{Bool, true, false, cond, true≢false}
@@ -51,7 +51,7 @@ module _ (bits : List ℕ) (w h : ℕ) (c : Corners) (s : Float) where
     where
       by : (f : Option Transform) (build : Transform → Built) → ((t : Transform) → Carries (build t)) → Carries (by_fit f build)
       by None build h = nothing
-      by (Some t) build h = h t
+      by (Is t) build h = h t
 
   carried : Carries (build_of bits w h c s)
   unfolding build_of
@@ -59,7 +59,7 @@ module _ (bits : List ℕ) (w h : ℕ) (c : Corners) (s : Float) where
     where
       go : (e : Option Version) → Carries (build_for bits w h c s e)
       go None = nothing
-      go (Some v) = carried_with v.0
+      go (Is v) = carried_with v.0
 
 -- ---- what triples give, those that can't be built left out
 module _ (f : Triple → Built) where
