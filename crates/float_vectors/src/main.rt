@@ -31,26 +31,26 @@ fn wide(x: f32) -> f64 {
 }
 
 fn pattern(x: f32) -> u64 {
-    x.bits() as u64
+    u64::from(x.bits())
 }
 
 // The pattern of n as an f64.
 fn whole(n: i32) -> u64 {
-    float::bits64(std::num::nearest_i64_to_f64(i64::from(n)))
+    std::num::nearest_i64_to_f64(i64::from(n)).bits()
 }
 
 // What the function f gives here. A pattern is tried on a quotient, and a float made of a pattern by what the processor makes of it.
 fn answer(f: u8, n: u64) -> u64 {
     match f {
         b'1' => pattern(upper(n) / lower(n)),
-        b'2' => float::bits64(wide(upper(n)) / wide(lower(n))),
-        b'3' => float::bits64(wide(lower(n))),
-        b'4' => float::bits64(f64::of_bits(n) / 3.0),
+        b'2' => (wide(upper(n)) / wide(lower(n))).bits(),
+        b'3' => wide(lower(n)).bits(),
+        b'4' => (f64::of_bits(n) / 3.0).bits(),
         b'5' => pattern(Float::abs(lower(n))),
-        b'6' => float::bits64(Float::abs(f64::of_bits(n))),
+        b'6' => Float::abs(f64::of_bits(n)).bits(),
         b'7' => pattern(float::max32(upper(n), lower(n))),
         b'8' => pattern(float::min32(upper(n), lower(n))),
-        b'9' => float::to_u32(lower(n)) as u64,
+        b'9' => u64::from(float::to_u32(lower(n))),
         b'a' => whole(float::to_i32(lower(n))),
         b'b' => pattern(float::round32(lower(n))),
         b'c' => pattern(float::narrow(f64::of_bits(n))),
