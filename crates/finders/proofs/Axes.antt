@@ -1,6 +1,5 @@
 -- The lines of an axis: how many hits they can add, and that the rows and then the columns give all sightings. Assumes nothing.
-use Rattle.std.specs.Prelude.{Option, Some, None}
-use Rattle.std.proofs.Common.{◌≡◌, ℕ, zero, suc, ◌+◌, ◌-◌, ◌*◌, ◌/◌, ◌<◌, ◌≤◌, Bool, true, false, cond, not, List, [], ◌∷◌, length, ap, ◌∙◌, arith, length-append}
+use Rattle.std.proofs.Common.{◌≡◌, ℕ, zero, suc, ◌+◌, ◌-◌, ◌*◌, ◌/◌, ◌<◌, ◌≤◌, Bool, true, false, cond, not, List, [], ◌∷◌, length, refl, ap, ◌∙◌, arith, length-append}
 use mathlib.Core.Bool.{beq}
 use lib.Ieee.{Float}
 use Rattle.lists.specs.Lists.{range, folded, flat_map}
@@ -14,11 +13,11 @@ use Rattle.std.specs.Prelude.{Option, Some, None}
 use Rattle.transform.specs.declared.Point.{Point}
 use Rattle.finders.specs.declared.search.Line.{Line}
 use Rattle.finders.specs.Hits.{Hit, runs, hit_if, window, hits, line_hits}
-use Rattle.finders.specs.Held.{Sighting, Held, held, merge_next}
+use Rattle.finders.specs.Held.{Sighting, Held, held, over, merge_next}
 use Rattle.finders.specs.Search.{max_finders, sighting, seen, every_second, row_sightings_by, column_sightings_by, sightings_by, found_by, found}
 use Rattle.finders.specs.Inner.{line_most, axis_most, Fine, line_at, line_count, line_sightings, scanned, scanned_at, axis}
 use Rattle.finders.proofs.Folding.{folded-flat_map}
-use Rattle.finders.proofs.Tables.{fine_mono, folded_fine}
+use Rattle.finders.proofs.Tables.{over_stays, fine_mono, folded_fine}
 
 -- ---- a line of len pixels has at most len + 1 runs, and no more hits than runs
 window_one : (end a b c d e : ℕ) → length (window end a b c d e) ≤ 1
@@ -104,6 +103,16 @@ module _ (bits : List ℕ) (width height : ℕ) where
         let c = (line_count width height columns + 1) / 2 in
         fine_mono (folded (scanned_at bits width height columns) s (range 0 c)) (k + line_most * length (range 0 c)) (k + axis_most) (omega (arith, count_small, length-count 0 (c - 0)))
         (lines_fine s (range 0 c) k f)
+
+    -- a hit too many stays one
+    pub lines_over : (ns : List ℕ) → folded (scanned_at bits width height columns) over ns ≡ over
+    unfolding folded
+    lines_over [] = refl
+    lines_over (n ∷ ns) = rw (over_stays max_finders (line_sightings bits width height (line_at width height columns (2 * n)))) (lines_over ns)
+
+    pub axis_over : axis bits width height columns over ≡ over
+    unfolding axis
+    axis_over = lines_over (range 0 ((line_count width height columns + 1) / 2))
 
   -- ---- the first hit of several, confirmed or not
   module _ (columns : Bool) (n : ℕ) (hs : List Hit) (h : Hit) (rest : List Hit) (is : hs ≡ h ∷ rest) (c : Option Point) (z : c ≡ confirmed_on bits width height columns n h.centre h.pitch) where

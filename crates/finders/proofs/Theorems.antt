@@ -10,6 +10,7 @@ use Rattle.finders.specs.Held.{Sighting, Held, held, over, within, join, place, 
 use Rattle.finders.specs.Search.{max_finders, sightings, found_by, found}
 use Rattle.finders.specs.Rank.{stays, insert, ranked}
 use Rattle.finders.specs.Answer.{is_over, find_refusal, answer_of}
+use Rattle.finders.proofs.Tables.{over_stays}
 
 -- ---- 6: a hit is one too many if and only if it falls within no held finder while the table is full, for a table of any number of places
 abbrev None : Sighting → List Finder → Type 0
@@ -49,11 +50,6 @@ full_if limit fs s few n = rw (lt-leb (length (place fs s)) limit (omega (arith,
 abbrev Overflows : ℕ → List Finder → List Sighting → Type 0
 Overflows limit fs [] = ⊥
 Overflows limit fs (s ∷ ss) = ((length fs ≡ limit) × None s fs) ⊎ Overflows limit (place fs s) ss
-
-over_stays : (limit : ℕ) (ss : List Sighting) → folded (merge_next limit) over ss ≡ over
-unfolding folded
-over_stays limit [] = refl
-over_stays limit (s ∷ ss) = over_stays limit ss
 
 merge_by : (limit : ℕ) (fs : List Finder) (s : Sighting) (t : Bool) → leb (length (place fs s)) limit ≡ t → merge limit fs s ≡ cond t (held (place fs s)) over
 unfolding merge

@@ -1,5 +1,6 @@
 -- The search as the code has it. For contracts of inner functions, and for proofs.
-use Rattle.std.specs.Prelude.{◌≡◌, ℕ, zero, suc, ◌+◌, ◌-◌, ◌*◌, ◌/◌, ◌^◌, ◌<◌, ◌≤◌, Bool, true, false, cond, List, [], ◌∷◌, length, nat_lt}
+use Rattle.std.specs.Prelude.{◌≡◌, ℕ, zero, suc, ◌+◌, ◌-◌, ◌*◌, ◌/◌, ◌<◌, ◌≤◌, Bool, true, false, cond, List, [], ◌∷◌, length, nat_lt, Option, Some, None, Result, Ok, Err, MatchResult}
+use Rattle.std.specs.Bool.{⊤}
 use Rattle.lists.specs.Lists.{Each, range, folded, first_where, flat_map}
 use Rattle.lcr_core.specs.Outcome.{refusal_number, max_side}
 use Rattle.lcr_core.specs.declared.Refusal.{Refusal}
@@ -13,39 +14,30 @@ use Rattle.finders.specs.Answer.{table_of, held_in}
 use Rattle.geometry.specs.declared.Finder.{Finder}
 use Rattle.finders.specs.declared.Finders.{Finders}
 use Rattle.finders.specs.declared.Found.{Found}
-use Rattle.finders.specs.declared.held.Merged.{Merged}
 use Rattle.finders.specs.declared.search.Line.{Line}
 use Rattle.finders.specs.declared.search.Window.{Window}
-use Rattle.finders.specs.declared.search.Next.{Next}
-use Rattle.finders.specs.declared.search.Next.TheVariants.{Hit as NextHit, End}
-use Rattle.finders.specs.declared.search.Sighted.{Sighted}
-use Rattle.finders.specs.declared.search.Sighted.TheVariants as sighted
+use Rattle.finders.specs.declared.search.NextHit.{NextHit}
+use Rattle.finders.specs.declared.search.NextSighting.{NextSighting}
 
 -- ---- the table
-abbrev pub merged_of : Held → Merged
-merged_of (held fs) = record { full = false; finders = table_of fs }
-merged_of over = record { full = true; finders = table_of [] }
-
-abbrev pub held_of : Merged → Held
-held_of t = cond t.full over (held (held_in t.finders))
+-- what a step of the search ends with: a table of the finders that are then held, or refusal 6 where there was one too many
+abbrev pub EndsWith : Held → Result ⊤ Refusal → Finders → Type 0
+EndsWith s r t = MatchResult r (λ _. (t ≡ table_of (held_in t)) × (s ≡ held (held_in t))) (λ e. (s ≡ over) × (e ≡ FullTable))
 
 -- no finder has more than k confirmations
 abbrev pub Bounded : List Finder → ℕ → Type 0
 Bounded fs k = Each (λ (f : Finder). f.confirmations ≤ k) fs
 
--- a table that a hit can be merged into: zero beyond its count, with room for one more confirmation of each finder
-pub record Good (t : Finders) : Type 0 where
+-- a table that a hit can be merged into: zero beyond its count, no finder with more than k confirmations
+pub record Good (t : Finders) (k : ℕ) : Type 0 where
   pub few : t.count ≤ max_finders
   pub rest : t ≡ table_of (held_in t)
-  pub counts : Bounded (held_in t) (2 ^ 32 - 2)
+  pub counts : Bounded (held_in t) k
 
+-- no more finders than there are places, none with more than k confirmations
 abbrev pub Fine : Held → ℕ → Type 0
 Fine over k = Unit {0}
 Fine (held fs) k = (length fs ≤ max_finders) × Bounded fs k
-
-pub record Sound (t : Merged) (k : ℕ) : Type 0 where
-  pub is : t ≡ merged_of (held_of t)
-  pub fine : Fine (held_of t) k
 
 -- ---- the hits of a line
 -- the runs from pixel i on, where a run of a colour starts there; none where no pixel is left
@@ -57,12 +49,15 @@ runs_from f colour i (suc n) = runs f colour 0 i (suc n)
 abbrev pub hits_after : (ℕ → Bool) → ℕ → Window → List Hit
 hits_after f len w = hits (w.at - (w.c + w.d + w.e)) (w.c ∷ w.d ∷ w.e ∷ runs_from f false w.at (len - w.at))
 
+-- a window on a line of len pixels: it ends there, and its runs have room before its end
+abbrev pub FitsIn : ℕ → Window → Type 0
+FitsIn len w = (w.at ≤ len) × (w.c + w.d + w.e ≤ w.at)
+
 -- the first of the hits after a window, with the window that it ends
-abbrev pub NextIs : (ℕ → Bool) → ℕ → Window → Next → Type 0
-NextIs f len w End = hits_after f len w ≡ []
-NextIs f len w (NextHit centre pitch v) =
-    (hits_after f len w ≡ record { centre = centre; pitch = pitch } ∷ hits_after f len v)
-    × (w.at < v.at) × (v.at ≤ len) × (v.c + v.d + v.e ≤ v.at)
+abbrev pub NextIs : (ℕ → Bool) → ℕ → Window → Option NextHit → Type 0
+NextIs f len w None = hits_after f len w ≡ []
+NextIs f len w (Some h) =
+    (hits_after f len w ≡ record { centre = h.centre; pitch = h.«module» } ∷ hits_after f len h.after) × (w.at < h.after.at) × FitsIn len h.after
 
 -- ---- the lines of one axis
 -- how many confirmed hits a line, and an axis, has at most
@@ -91,11 +86,10 @@ module _ (bits : List ℕ) (width height : ℕ) where
   sightings_after l w = flat_map (seen bits width height l.columns l.number) (hits_after (pixel bits l.start l.stride) l.len w)
 
   -- the first of them, with the window that it ends
-  abbrev pub SightedIs : Line → Window → Sighted → Type 0
-  SightedIs l w sighted.End = sightings_after l w ≡ []
-  SightedIs l w (sighted.At x y m v) =
-      (sightings_after l w ≡ record { x = x; y = y; pitch = m } ∷ sightings_after l v)
-      × (w.at < v.at) × (v.at ≤ l.len) × (v.c + v.d + v.e ≤ v.at)
+  abbrev pub SightedIs : Line → Window → Option NextSighting → Type 0
+  SightedIs l w None = sightings_after l w ≡ []
+  SightedIs l w (Some s) =
+      (sightings_after l w ≡ record { x = s.x; y = s.y; pitch = s.«module» } ∷ sightings_after l s.after) × (w.at < s.after.at) × FitsIn l.len s.after
 
   -- after those of a line
   abbrev pub scanned : Held → Line → Held
@@ -118,8 +112,9 @@ keep fs f = cond (stays f) (insert fs f) fs
 
 -- ---- the answer
 abbrev pub refused : Refusal → Found
-refused o = record { refusal = refusal_number o; finders = table_of [] }
+refused r = record { refusal = refusal_number r; finders = table_of [] }
 
-abbrev pub outcome : Held → Found
-outcome over = refused FullTable
-outcome (held fs) = record { refusal = 0; finders = table_of (ranked fs) }
+-- what the search ends with: the finders held at its end, ranked, or refusal 6
+abbrev pub RanksAfter : Held → Result Finders Refusal → Type 0
+RanksAfter over r = r ≡ Err FullTable
+RanksAfter (held fs) r = r ≡ Ok (table_of (ranked fs))

@@ -5,12 +5,10 @@ ghost use Rattle.std.specs.Prelude.{◌≡◌, []};
 ghost use Rattle.lcr_core.specs.Passed.{Sides};
 ghost use Rattle.finders.specs.Search.{found};
 ghost use Rattle.finders.specs.Answer.{table_of, answer_of};
-ghost use Rattle.finders.specs.Inner.{refused, outcome};
+ghost use Rattle.finders.specs.Inner.{refused, RanksAfter};
 
 use geometry::Finder;
-use held::Merged;
 use lcr_core::Refusal;
-use rank::ranked_finders;
 use search::scan_axis;
 
 mod held;
@@ -54,34 +52,28 @@ fn refuse(refusal: Refusal) -> Found
     }
 }
 
-fn searched(bits: &[u8], width: u16, height: u16) -> Found
+fn searched(bits: &[u8], width: u16, height: u16) -> Result<Finders, Refusal>
     requires { Sides width height }
-    ensures { result ≡ outcome (found bits.now width height) }
+    ensures { RanksAfter (found bits.now width height) result }
 {
-    let none = no_finders();
-    let start = Merged {
-        full: false,
-        finders: none,
-    };
-    let rows = scan_axis(bits, width, height, false, start);
-    let all = scan_axis(bits, width, height, true, rows);
-    if all.full {
-        return refuse(Refusal::FullTable);
-    }
-    let held = all.finders;
-    let order = ranked_finders(held);
-    Found {
-        refusal: 0,
-        finders: order,
-    }
+    let mut held = no_finders();
+    scan_axis(bits, width, height, false, &mut held)?;
+    scan_axis(bits, width, height, true, &mut held)?;
+    Ok(held.ranked())
 }
 
 // The finders of a picture, those with most confirmations first, or a refusal: 1, 2, 4 or 6.
 pub fn find_finders(bits: &[u8], width: u32, height: u32) -> Found
     ensures { result ≡ answer_of bits.now width height }
 {
-    match binary::refusal::check_bits(bits.len(), width, height) {
-        Ok(()) => searched(bits, width as u16, height as u16),
+    if let Err(refusal) = binary::refusal::check_bits(bits.len(), width, height) {
+        return refuse(refusal);
+    }
+    match searched(bits, width as u16, height as u16) {
+        Ok(finders) => Found {
+            refusal: 0,
+            finders,
+        },
         Err(refusal) => refuse(refusal),
     }
 }

@@ -3,13 +3,14 @@ ghost use Rattle.std.specs.Prelude.{◌≡◌, ◌+◌, ◌-◌, ◌^◌, ◌≤
 ghost use Rattle.lcr_core.specs.Passed.{Sides};
 ghost use Rattle.lcr_core.specs.Outcome.{max_side};
 ghost use Rattle.binary.specs.Line.{pixel};
-ghost use Rattle.finders.specs.Held.{merge_next};
-ghost use Rattle.finders.specs.Search.{max_finders};
-ghost use Rattle.finders.specs.Inner.{merged_of, held_of, Sound, NextIs, SightedIs, scanned, line_at, line_count, axis, axis_most};
+ghost use Rattle.finders.specs.Held.{held};
+ghost use Rattle.finders.specs.Answer.{held_in};
+ghost use Rattle.finders.specs.Inner.{EndsWith, Good, FitsIn, NextIs, SightedIs, scanned, line_at, line_count, axis, axis_most};
 
-use crate::held::{Merged, merge_into};
+use crate::Finders;
 use binary::line::run_on;
 use confirm::confirm_hit;
+use lcr_core::Refusal;
 
 // A line to scan: row or column `number`, its pixels `start`, `start + stride` and so on, `len` of them.
 #[derive(Clone, Copy)]
@@ -32,97 +33,97 @@ pub struct Window {
 
 // A hit's centre and module, and the window after it.
 #[derive(Clone, Copy)]
-pub enum Next {
-    Hit(f32, f32, Window),
-    End,
+pub struct NextHit {
+    pub centre: f32,
+    pub module: f32,
+    pub after: Window,
 }
 
 // A confirmed hit's x, y and module, and the window after it.
 #[derive(Clone, Copy)]
-pub enum Sighted {
-    At(f32, f32, f32, Window),
-    End,
+pub struct NextSighting {
+    pub x: f32,
+    pub y: f32,
+    pub module: f32,
+    pub after: Window,
 }
 
 // The first hit of the line after a window.
-pub fn next_hit(bits: &[u8], start: u32, stride: u32, len: u16, w: Window) -> Next
-    requires { (w.at ≤ len) × (w.c + w.d + w.e ≤ w.at) }
-    ensures { NextIs (pixel bits.now start stride) len w result }
+fn next_hit(bits: &[u8], start: u32, stride: u32, len: u16, window: Window) -> Option<NextHit>
+    requires { FitsIn len window }
+    ensures { NextIs (pixel bits.now start stride) len window result }
 {
-    let mut c = w.c;
-    let mut d = w.d;
-    let mut e = w.e;
-    let mut at = w.at;
-    while at < len {
-        let light = run_on(bits, start, stride, at, len - at, false);
-        let next = at + light;
+    let mut w = window;
+    while w.at < len {
+        let light = run_on(bits, start, stride, w.at, len - w.at, false);
+        let next = w.at + light;
         let dark = run_on(bits, start, stride, next, len - next, true);
         let end = next + dark;
-        match ratio::matches_finder(c, d, e, light, dark) {
-            Some(module) => {
-                let centre = end as f32 - dark as f32 - light as f32 - e as f32 / 2.0;
-                return Next::Hit(
-                    centre,
-                    module,
-                    Window {
-                        c: e,
-                        d: light,
-                        e: dark,
-                        at: end,
-                    },
-                );
-            }
-            None => {}
+        let after = Window {
+            c: w.e,
+            d: light,
+            e: dark,
+            at: end,
+        };
+        if let Some(module) = ratio::matches_finder(w.c, w.d, w.e, light, dark) {
+            let centre = end as f32 - dark as f32 - light as f32 - w.e as f32 / 2.0;
+            return Some(NextHit {
+                centre,
+                module,
+                after,
+            });
         }
-        c = e;
-        d = light;
-        e = dark;
-        at = end;
+        w = after;
     }
-    Next::End
+    None
 }
 
 // The first confirmed hit of the line after a window.
-pub fn next_sighting(bits: &[u8], width: u16, height: u16, line: Line, w: Window) -> Sighted
-    requires { (w.at ≤ line.len) × (w.c + w.d + w.e ≤ w.at) }
-    ensures { SightedIs bits.now width height line w result }
+fn next_sighting(
+    bits: &[u8],
+    width: u16,
+    height: u16,
+    line: Line,
+    window: Window,
+) -> Option<NextSighting>
+    requires { FitsIn line.len window }
+    ensures { SightedIs bits.now width height line window result }
 {
-    let columns = line.columns;
-    let number = line.number;
-    let start = line.start;
-    let stride = line.stride;
-    let len = line.len;
-    let mut v = w;
-    loop {
-        match next_hit(bits, start, stride, len, v) {
-            Next::Hit(centre, module, after) => {
-                match confirm_hit(bits, width, height, columns, number, centre, module) {
-                    Some(p) => return Sighted::At(p.x, p.y, module, after),
-                    None => v = after,
-                }
-            }
-            Next::End => return Sighted::End,
+    let mut w = window;
+    while let Some(hit) = next_hit(bits, line.start, line.stride, line.len, w) {
+        let confirmed = confirm_hit(
+            bits,
+            width,
+            height,
+            line.columns,
+            line.number,
+            hit.centre,
+            hit.module,
+        );
+        if let Some(p) = confirmed {
+            return Some(NextSighting {
+                x: p.x,
+                y: p.y,
+                module: hit.module,
+                after: hit.after,
+            });
         }
+        w = hit.after;
     }
+    None
 }
 
-// What a confirmed hit adds to the finders.
-pub fn add_hit(t: Merged, x: f32, y: f32, module: f32) -> Merged
-    requires { Sound t (2 ^ 32 - 2) }
-    ensures { result ≡ merged_of (merge_next max_finders (held_of t) (record { x = x; y = y; pitch = «module» })) }
-{
-    if t.full {
-        return t;
-    }
-    let held = t.finders;
-    merge_into(held, x, y, module)
-}
-
-// The table is passed along only where a hit is confirmed.
-pub fn scan_line(bits: &[u8], width: u16, height: u16, line: Line, t: Merged) -> Merged
+// What the confirmed hits of a line add to the finders; refusal 6 where a place is missing.
+fn scan_line(
+    bits: &[u8],
+    width: u16,
+    height: u16,
+    line: Line,
+    t: &mut Finders,
+) -> Result<(), Refusal>
     requires len_le_max_side { line.len ≤ max_side }
-    requires sound { Sound t (2 ^ 32 - 2 - max_side) }
-    ensures { result ≡ merged_of (scanned bits.now width height (held_of t) line) }
+    requires good { Good t.old (2 ^ 32 - 2 - max_side) }
+    ensures { EndsWith (scanned bits.now width height (held (held_in t.old)) line) result t.new }
 {
     let first = run_on(bits, line.start, line.stride, 0, line.len, true);
     let mut w = Window {
@@ -131,19 +132,14 @@ pub fn scan_line(bits: &[u8], width: u16, height: u16, line: Line, t: Merged) ->
         e: first,
         at: first,
     };
-    let mut out = t;
-    loop {
-        match next_sighting(bits, width, height, line, w) {
-            Sighted::At(x, y, module, after) => {
-                out = add_hit(out, x, y, module);
-                w = after;
-            }
-            Sighted::End => return out,
-        }
+    while let Some(s) = next_sighting(bits, width, height, line, w) {
+        t.merge(s.x, s.y, s.module)?;
+        w = s.after;
     }
+    Ok(())
 }
 
-pub fn line_count(width: u16, height: u16, columns: bool) -> u16
+fn line_count(width: u16, height: u16, columns: bool) -> u16
     ensures { result ≡ line_count width height columns }
 {
     if columns {
@@ -152,7 +148,7 @@ pub fn line_count(width: u16, height: u16, columns: bool) -> u16
     height
 }
 
-pub fn line_at(width: u16, height: u16, columns: bool, number: u16) -> Line
+fn line_at(width: u16, height: u16, columns: bool, number: u16) -> Line
     ensures { result ≡ line_at width height columns number }
 {
     if columns {
@@ -174,19 +170,21 @@ pub fn line_at(width: u16, height: u16, columns: bool, number: u16) -> Line
 }
 
 // Every second row, or every second column, from 0 on.
-pub fn scan_axis(bits: &[u8], width: u16, height: u16, columns: bool, t: Merged) -> Merged
+pub fn scan_axis(
+    bits: &[u8],
+    width: u16,
+    height: u16,
+    columns: bool,
+    t: &mut Finders,
+) -> Result<(), Refusal>
     requires sides { Sides width height }
-    requires sound { Sound t axis_most }
-    ensures { result ≡ merged_of (axis bits.now width height columns (held_of t)) }
+    requires good { Good t.old axis_most }
+    ensures { EndsWith (axis bits.now width height columns (held (held_in t.old))) result t.new }
 {
-    let count = line_count(width, height, columns);
-    let half = count / 2 + count % 2;
-    let mut out = t;
-    let mut k = 0;
-    while k < half {
+    let half = line_count(width, height, columns).div_ceil(2);
+    for k in 0..half {
         let line = line_at(width, height, columns, 2 * k);
-        out = scan_line(bits, width, height, line, out);
-        k += 1;
+        scan_line(bits, width, height, line, t)?;
     }
-    out
+    Ok(())
 }

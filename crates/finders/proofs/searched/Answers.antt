@@ -1,38 +1,39 @@
 -- `finders::searched` meets its contract. Assumes nothing.
-use Rattle.std.proofs.Common.{◌≡◌, ◌∙◌}
-use Rattle.finders.specs.Search.{found}
-use Rattle.finders.specs.Inner.{merged_of}
-use Rattle.finders.proofs.Outcomes.{start_sound, rows_is, rows_sound, all_is, all_table, outcome_full, outcome_held}
-use Rattle.finders.proofs.searched.Goals.{After-scan_axis-all}
+use Rattle.finders.proofs.Outcomes.{none_good, rows_over, rows_good, columns_over, all_few, all_ranked, six_after}
 use Rattle.finders.proofs.searched.Goals as goal
 
--- the table after both axes
-all : (c : After-scan_axis-all) → let a = c.args in c.scan_axis-all.result ≡ merged_of (found a.bits.now a.width a.height)
-all c =
-    let s = c in
-    let a = s.args in
-    all_is a.bits.now a.width a.height s.requires _ _
-    (rows_is a.bits.now a.width a.height s.requires _ c.no_finders-none.ensures _ c.scan_axis-rows.ensures) c.scan_axis-all.ensures
+pub scan_axis-requires : goal.scan_axis-requires
+scan_axis-requires c = record { sides = c.requires; good = none_good _ c.no_finders-held.ensures }
 
-pub scan_axis-rows-requires : goal.scan_axis-rows-requires
-scan_axis-rows-requires c = record { sides = c.requires; sound = start_sound _ c.no_finders-none.ensures }
-
-pub scan_axis-all-requires : goal.scan_axis-all-requires
-scan_axis-all-requires c =
+pub returns-in_err-scan_axis : goal.returns-in_err-scan_axis
+returns-in_err-scan_axis c =
     let a = c.args in
-    record { sides = c.requires; sound = rows_sound a.bits.now a.width a.height c.requires _ (rows_is a.bits.now a.width a.height c.requires _ c.no_finders-none.ensures _ c.scan_axis-rows.ensures) }
+    let e = c.in_err-scan_axis.ensures in
+    six_after _ c.in_err-scan_axis.field-0.0 _ c.from_residual.ensures.1 e.1 (rows_over a.bits.now a.width a.height c.requires _ c.no_finders-held.ensures e.0)
 
-pub returns-then-all : goal.returns-then-all
-returns-then-all c =
+pub scan_axis-requires-2-clause-good : goal.scan_axis-requires-2-clause-good
+scan_axis-requires-2-clause-good c =
     let a = c.args in
-    c.refuse.ensures ∙ outcome_full (found a.bits.now a.width a.height) _ (all (goal.at.returns-then-all c).After-scan_axis-all) c.if-all.true
+    let e = c.in_ok-scan_axis.ensures in
+    rows_good a.bits.now a.width a.height c.requires _ c.no_finders-held.ensures _ e.0 e.1
 
-pub ranked_finders-order-requires : goal.ranked_finders-order-requires
-ranked_finders-order-requires c =
+pub returns-in_err-scan_axis-2 : goal.returns-in_err-scan_axis-2
+returns-in_err-scan_axis-2 c =
     let a = c.args in
-    all_table a.bits.now a.width a.height c.requires _ (all (goal.at.ranked_finders-order-requires c).After-scan_axis-all) c.if-all.false
+    let e = c.in_ok-scan_axis.ensures in
+    let f = c.in_err-scan_axis-2.ensures in
+    six_after _ c.in_err-scan_axis-2.field-0.0 _ c.from_residual-in_err-scan_axis-2.ensures.1 f.1 (columns_over a.bits.now a.width a.height c.requires _ c.no_finders-held.ensures _ e.0 e.1 f.0)
+
+pub ranked-requires : goal.ranked-requires
+ranked-requires c =
+    let a = c.args in
+    let e = c.in_ok-scan_axis.ensures in
+    let f = c.in_ok-scan_axis-2.ensures in
+    (f.0, all_few a.bits.now a.width a.height c.requires _ c.no_finders-held.ensures _ e.0 e.1 _ f.0 f.1)
 
 pub returns : goal.returns
 returns c =
     let a = c.args in
-    outcome_held (found a.bits.now a.width a.height) _ _ (all (goal.at.returns c).After-scan_axis-all) c.if-all.false c.ranked_finders-order.ensures
+    let e = c.in_ok-scan_axis.ensures in
+    let f = c.in_ok-scan_axis-2.ensures in
+    all_ranked a.bits.now a.width a.height c.requires _ c.no_finders-held.ensures _ e.0 e.1 _ f.0 f.1 _ c.ranked.ensures

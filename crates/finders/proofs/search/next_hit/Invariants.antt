@@ -1,12 +1,15 @@
 -- `finders::search::next_hit` meets its contract. Assumes nothing.
-use Rattle.std.proofs.Common.{◌≡◌, ◌+◌, ◌-◌, ◌≤◌}
+use Rattle.std.proofs.Common.{◌≡◌, ◌-◌, ◌≤◌}
 use Rattle.binary.specs.Line.{pixel}
-use Rattle.finders.specs.Inner.{hits_after}
-use Rattle.finders.proofs.Windows.{win}
+use Rattle.finders.specs.Inner.{FitsIn, hits_after}
 use Rattle.finders.proofs.search.next_hit.Given as goal
 
-abbrev pub invariant-loop-at : goal.invariant-loop-at
-invariant-loop-at l = (l.at ≤ l.len) × (l.c + l.d + l.e ≤ l.at) × (l.initial.at ≤ l.at) × (hits_after (pixel l.bits l.start l.stride) l.len (win l.initial.c l.initial.d l.initial.e l.initial.at) ≡ hits_after (pixel l.bits l.start l.stride) l.len (win l.c l.d l.e l.at))
+abbrev pub invariant-loop-w : goal.invariant-loop-w
+invariant-loop-w l = record {
+  fits : FitsIn l.len l.w;
+  on : l.initial.w.at ≤ l.w.at;
+  left : hits_after (pixel l.bits l.start l.stride) l.len l.initial.w ≡ hits_after (pixel l.bits l.start l.stride) l.len l.w;
+}
 
-abbrev pub decreases-loop-at : goal.decreases-loop-at
-decreases-loop-at l = l.len - l.at
+abbrev pub decreases-loop-w : goal.decreases-loop-w
+decreases-loop-w l = l.len - l.w.at

@@ -1,16 +1,20 @@
 -- `finders::search::scan_line` meets its contract. Assumes nothing.
-use Rattle.std.proofs.Common.{◌≡◌, ◌+◌, ◌-◌, ◌^◌, ◌≤◌}
+use Rattle.std.proofs.Common.{◌≡◌, ◌+◌, ◌-◌, ◌^◌}
 use Rattle.lists.specs.Lists.{folded}
 use Rattle.lcr_core.specs.Outcome.{max_side}
-use Rattle.finders.specs.Held.{merge_next}
+use Rattle.finders.specs.Held.{held, merge_next}
 use Rattle.finders.specs.Search.{max_finders}
-use Rattle.finders.specs.Inner.{held_of, Sound, line_sightings, sightings_after}
+use Rattle.finders.specs.Answer.{held_in}
+use Rattle.finders.specs.Inner.{FitsIn, Good, line_sightings, sightings_after}
 use Rattle.finders.proofs.search.scan_line.Given as goal
 
-abbrev pub invariant-loop-x : goal.invariant-loop-x
-invariant-loop-x l =
-    (l.w.at ≤ l.line.len) × (l.w.c + l.w.d + l.w.e ≤ l.w.at) × Sound l.out (2 ^ 32 - 2 - max_side + l.w.at)
-    × (folded (merge_next max_finders) (held_of l.initial.out) (line_sightings l.bits l.width l.height l.line) ≡ folded (merge_next max_finders) (held_of l.out) (sightings_after l.bits l.width l.height l.line l.w))
+abbrev pub invariant-loop-s : goal.invariant-loop-s
+invariant-loop-s l = record {
+  fits : FitsIn l.line.len l.w;
+  good : Good l.t (2 ^ 32 - 2 - max_side + l.w.at);
+  left : folded (merge_next max_finders) (held (held_in l.initial.t)) (line_sightings l.bits l.width l.height l.line)
+      ≡ folded (merge_next max_finders) (held (held_in l.t)) (sightings_after l.bits l.width l.height l.line l.w);
+}
 
-abbrev pub decreases-loop-x : goal.decreases-loop-x
-decreases-loop-x l = l.line.len - l.w.at
+abbrev pub decreases-loop-s : goal.decreases-loop-s
+decreases-loop-s l = l.line.len - l.w.at
