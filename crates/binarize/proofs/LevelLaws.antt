@@ -19,9 +19,8 @@ use Rattle.lists.proofs.Folds.{range_more}
 use Rattle.blocks.specs.Blocks.{mean, at, cells, about}
 use Rattle.blocks.specs.declared.rect.Rect.{Rect}
 use Rattle.blocks.specs.Rects.{IsAbout}
-use Rattle.binarize.specs.declared.levels.Split.{Split}
 use Rattle.binarize.specs.Levels.{midway, level, first_level, marked, marked_means, any_marked, chosen, global_level, window, window_level}
-use Rattle.binarize.specs.Splits.{level_of, Tallied, InGrid}
+use Rattle.binarize.specs.Splits.{Tally, level_of, Tallied, InGrid}
 
 -- ---- the level of a list of means
 
@@ -29,7 +28,7 @@ pub level-none : (l : List ℕ) → length l ≡ 0 → None ≡ level_of l
 level-none [] e = refl
 level-none (x ∷ l) e = absurd (omega arith)
 
-pub level_some : (l : List ℕ) (m v : ℕ) (t : Split) → (length l ≡ 0 → ⊥) → m ≡ mean l → Tallied l m t
+pub level_some : (l : List ℕ) (m v : ℕ) (t : Tally) → (length l ≡ 0 → ⊥) → m ≡ mean l → Tallied l m t
     → v ≡ cond (eqb t.lows 0 || eqb t.highs 0) m ((t.low / t.lows + t.high / t.highs) / 2) → Some v ≡ level_of l
 unfolding level midway
 level_some [] m v t some e h q = absurd (some refl)

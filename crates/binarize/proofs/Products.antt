@@ -5,8 +5,7 @@ use Prim.Native.Nat.{ℕ, ◌+◌, ◌-◌, ◌*◌, ◌≤◌}
 use native.Mathlib.Omega.{arith}
 use lib.Dec.{eqb, leb}
 use Rattle.std.specs.Int.{from_bool}
-use Rattle.binarize.specs.declared.levels.Split.{Split}
-use Rattle.binarize.specs.Splits.{with_block, Bounded}
+use Rattle.binarize.specs.Splits.{Tally, with_block}
 
 -- what two such numbers and their products come to
 pub record Few (v on one : ℕ) : Type 0 where
@@ -21,25 +20,19 @@ few v on one true false h e f = rw (e, f) (record { within = omega arith; both =
 few v on one false true h e f = rw (e, f) (record { within = omega arith; both = omega arith; low = omega arith; high = omega arith })
 few v on one false false h e f = rw (e, f) (record { within = omega arith; both = omega arith; low = omega arith; high = omega arith })
 
-abbrev pub counted : Split → ℕ → ℕ → ℕ → Split
+abbrev pub counted : Tally → ℕ → ℕ → ℕ → Tally
 counted t v on one = record { low = t.low + v * (on * one); lows = t.lows + on * one; high = t.high + v * (on - on * one); highs = t.highs + (on - on * one) }
 
-pub split_same : (s t : Split) → s.low ≡ t.low → s.lows ≡ t.lows → s.high ≡ t.high → s.highs ≡ t.highs → s ≡ t
-split_same s t e f g h = rw (e, f, g, h)
+tally_same : (s t : Tally) → s.low ≡ t.low → s.lows ≡ t.lows → s.high ≡ t.high → s.highs ≡ t.highs → s ≡ t
+tally_same s t e f g h = rw (e, f, g, h)
 
-pub counted_is : (m : ℕ) (t : Split) (v mark on one : ℕ) → on ≡ from_bool (eqb mark 1) → one ≡ from_bool (leb v m) → counted t v on one ≡ with_block m t v mark
+pub counted_is : (m : ℕ) (t : Tally) (v mark on one : ℕ) → on ≡ from_bool (eqb mark 1) → one ≡ from_bool (leb v m) → counted t v on one ≡ with_block m t v mark
 unfolding with_block
 counted_is m t v mark on one e f = rw (e, f) (go (eqb mark 1) (leb v m))
   where
     go : (p q : Bool) → counted t v (from_bool p) (from_bool q) ≡ cond p (cond q (record { low = t.low + v; lows = t.lows + 1; high = t.high; highs = t.highs })
         (record { low = t.low; lows = t.lows; high = t.high + v; highs = t.highs + 1 })) t
-    go true true = split_same _ _ (omega arith) (omega arith) (omega arith) (omega arith)
-    go true false = split_same _ _ (omega arith) (omega arith) (omega arith) (omega arith)
-    go false true = split_same _ _ (omega arith) (omega arith) (omega arith) (omega arith)
-    go false false = split_same _ _ (omega arith) (omega arith) (omega arith) (omega arith)
-
-pub counted_bound : (t : Split) (v on one : ℕ) (p q : Bool) → v ≤ 255 → on ≡ from_bool p → one ≡ from_bool q → (n : ℕ) → Bounded n t → Bounded (n + 1) (counted t v on one)
-counted_bound t v on one true true h e f n b = rw (e, f) (record { low = omega (arith, b.low); high = omega (arith, b.high); most = omega (arith, b.most) })
-counted_bound t v on one true false h e f n b = rw (e, f) (record { low = omega (arith, b.low); high = omega (arith, b.high); most = omega (arith, b.most) })
-counted_bound t v on one false true h e f n b = rw (e, f) (record { low = omega (arith, b.low); high = omega (arith, b.high); most = omega (arith, b.most) })
-counted_bound t v on one false false h e f n b = rw (e, f) (record { low = omega (arith, b.low); high = omega (arith, b.high); most = omega (arith, b.most) })
+    go true true = tally_same _ _ (omega arith) (omega arith) (omega arith) (omega arith)
+    go true false = tally_same _ _ (omega arith) (omega arith) (omega arith) (omega arith)
+    go false true = tally_same _ _ (omega arith) (omega arith) (omega arith) (omega arith)
+    go false false = tally_same _ _ (omega arith) (omega arith) (omega arith) (omega arith)

@@ -1,4 +1,4 @@
--- Laws of splits: what a loop over blocks counts is the two groups of marked means. Assumes nothing.
+-- Laws of tallies: what a loop over blocks counts is the two groups of marked means. Assumes nothing.
 use mathlib.Core.Path.{◌≡◌, refl, sym, ap, ◌∙◌, subst}
 use mathlib.Core.Bool.{Bool, true, false, cond}
 use mathlib.Core.List.{List, [], ◌∷◌, ◌++◌, append_assoc, append-nil, map}
@@ -11,9 +11,8 @@ use Rattle.lists.specs.Lists.{folded, those}
 use Rattle.lists.proofs.Filters.{those-append}
 use Rattle.lists.proofs.Folds.{folded-append}
 use Rattle.blocks.specs.Blocks.{sum}
-use Rattle.binarize.specs.declared.levels.Split.{Split}
 use Rattle.binarize.specs.Levels.{marked, marked_means}
-use Rattle.binarize.specs.Splits.{with_mean, with_block, block_step, no_block, Tallied}
+use Rattle.binarize.specs.Splits.{Tally, with_mean, with_block, block_step, no_block, Tallied}
 
 sum_more : (l : List ℕ) (v : ℕ) → sum (l ++ (v ∷ [])) ≡ sum l + v
 unfolding folded
@@ -36,7 +35,7 @@ module _ (p : ℕ → Bool) (l : List ℕ) (v : ℕ) where
   length-inside n q e = ap (λ (k : ℕ). k + 1) q ∙ sym (ap length (inside e) ∙ length-append (those p l) (v ∷ []))
 
 -- one mean more
-tallied_more : (l : List ℕ) (m v : ℕ) (t : Split) → Tallied l m t → Tallied (l ++ (v ∷ [])) m (with_mean m t v)
+tallied_more : (l : List ℕ) (m v : ℕ) (t : Tally) → Tallied l m t → Tallied (l ++ (v ∷ [])) m (with_mean m t v)
 tallied_more l m v t h = go (leb v m) refl
   where
     go : (b : Bool) → leb v m ≡ b → Tallied (l ++ (v ∷ [])) m (cond b (record { low = t.low + v; lows = t.lows + 1; high = t.high; highs = t.highs })
@@ -65,19 +64,19 @@ tallied_more l m v t h = go (leb v m) refl
 
 -- the blocks of a list, one after the other
 module _ (means mark : ℕ → ℕ) (m : ℕ) where
-  tallied_from : (is l : List ℕ) (t : Split) → Tallied l m t → Tallied (l ++ marked_means means mark is) m (folded (block_step means mark m) t is)
+  tallied_from : (is l : List ℕ) (t : Tally) → Tallied l m t → Tallied (l ++ marked_means means mark is) m (folded (block_step means mark m) t is)
   unfolding those folded block_step with_block
   tallied_from [] l t h = rw append-nil h
   tallied_from (i ∷ is) l t h = go (eqb (mark i) 1) (tallied_from is)
     where
-      go : (b : Bool) → ((k : List ℕ) (s : Split) → Tallied k m s → Tallied (k ++ marked_means means mark is) m (folded (block_step means mark m) s is))
+      go : (b : Bool) → ((k : List ℕ) (s : Tally) → Tallied k m s → Tallied (k ++ marked_means means mark is) m (folded (block_step means mark m) s is))
           → Tallied (l ++ map means (cond b (i ∷ those (marked mark) is) (those (marked mark) is))) m (folded (block_step means mark m) (cond b (with_mean m t (means i)) t) is)
       go true ih =
           subst (λ (k : List ℕ). Tallied k m (folded (block_step means mark m) (with_mean m t (means i)) is)) (append_assoc l (means i ∷ []) (marked_means means mark is))
           (ih (l ++ (means i ∷ [])) (with_mean m t (means i)) (tallied_more l m (means i) t h))
       go false ih = ih l t h
 
-  pub tallied : (is : List ℕ) (t : Split) → t ≡ folded (block_step means mark m) no_block is → Tallied (marked_means means mark is) m t
+  pub tallied : (is : List ℕ) (t : Tally) → t ≡ folded (block_step means mark m) no_block is → Tallied (marked_means means mark is) m t
   unfolding those folded
   tallied is t e =
       subst (Tallied (marked_means means mark is) m) (sym e)

@@ -4,7 +4,7 @@ use Rattle.lists.specs.Lists.{range, folded, those}
 use Rattle.binary.specs.Binary.{bytes_of}
 use Rattle.blocks.specs.declared.rect.Rect.{Rect}
 use Rattle.blocks.specs.Blocks.{sum, blocks_refusal}
-use Rattle.binarize.specs.declared.levels.Split.{Split}
+use Rattle.binarize.specs.declared.split.Split.{Split}
 use Rattle.binarize.specs.Levels.{level}
 
 -- the level of a window, or none where it holds no marked block
@@ -12,46 +12,50 @@ abbrev pub level_of : List ℕ → Option ℕ
 level_of [] = None
 level_of (v ∷ l) = Some (level (v ∷ l))
 
+-- what a split counts
+pub record Tally : Type 0 where
+  pub low : ℕ
+  pub lows : ℕ
+  pub high : ℕ
+  pub highs : ℕ
+
+abbrev pub tally_of : Split → Tally
+tally_of t = record { low = t.low; lows = t.lows; high = t.high; highs = t.highs }
+
 -- one mean more
-abbrev pub with_mean : ℕ → Split → ℕ → Split
+abbrev pub with_mean : ℕ → Tally → ℕ → Tally
 with_mean m t v =
     cond (leb v m) (record { low = t.low + v; lows = t.lows + 1; high = t.high; highs = t.highs })
     (record { low = t.low; lows = t.lows; high = t.high + v; highs = t.highs + 1 })
 
 -- one block more, which counts if it is marked
-unfoldable pub with_block : ℕ → Split → ℕ → ℕ → Split
+unfoldable pub with_block : ℕ → Tally → ℕ → ℕ → Tally
 with_block m t v mark = cond (eqb mark 1) (with_mean m t v) t
 
 -- that with number i
-unfoldable pub block_step : (ℕ → ℕ) → (ℕ → ℕ) → ℕ → Split → ℕ → Split
+unfoldable pub block_step : (ℕ → ℕ) → (ℕ → ℕ) → ℕ → Tally → ℕ → Tally
 block_step means mark m t i = with_block m t (means i) (mark i)
 
 -- that in column x, where the row begins at number `from`
-unfoldable pub column_step : (ℕ → ℕ) → (ℕ → ℕ) → ℕ → ℕ → Split → ℕ → Split
+unfoldable pub column_step : (ℕ → ℕ) → (ℕ → ℕ) → ℕ → ℕ → Tally → ℕ → Tally
 column_step means mark m from t x = block_step means mark m t (from + x)
 
 -- columns a to b of row y
-unfoldable pub row_step : (ℕ → ℕ) → (ℕ → ℕ) → ℕ → ℕ → ℕ → ℕ → Split → ℕ → Split
+unfoldable pub row_step : (ℕ → ℕ) → (ℕ → ℕ) → ℕ → ℕ → ℕ → ℕ → Tally → ℕ → Tally
 row_step means mark m bw a b t y = folded (column_step means mark m (y * bw)) t (range a b)
 
 -- no block yet
-abbrev pub no_block : Split
+abbrev pub no_block : Tally
 no_block = record { low = 0; lows = 0; high = 0; highs = 0 }
 
 -- what a split of the means l at m holds: the sum and the number of those up to m, and of those above
-pub record Tallied (l : List ℕ) (m : ℕ) (t : Split) : Type 0 where
+pub record Tallied (l : List ℕ) (m : ℕ) (t : Tally) : Type 0 where
   pub low : t.low ≡ sum (those (λ v. leb v m) l)
   pub lows : t.lows ≡ length (those (λ v. leb v m) l)
   pub high : t.high ≡ sum (those (λ v. ltb m v) l)
   pub highs : t.highs ≡ length (those (λ v. ltb m v) l)
   pub total : t.low + t.high ≡ sum l
   pub count : t.lows + t.highs ≡ length l
-
--- each mean is a byte, and there are at most n of them
-pub record Bounded (n : ℕ) (t : Split) : Type 0 where
-  pub low : t.low ≤ 255 * t.lows
-  pub high : t.high ≤ 255 * t.highs
-  pub most : t.lows + t.highs ≤ n
 
 -- a window lies within rows of w, of which a list of len values has all, and there are at most 512 × 512
 pub record InGrid (len w : ℕ) (r : Rect) : Type 0 where

@@ -1,39 +1,15 @@
 // Levels of windows of blocks.
-ghost use Rattle.std.specs.Prelude.{◌≡◌, ◌==◌, cond, ◌||◌, ℕ, ◌+◌, ◌-◌, ◌*◌, ◌/◌, ◌≤◌, ◌<◌, length, eqb, ltb};
+ghost use Rattle.std.specs.Prelude.{◌≡◌, ◌==◌, cond, ◌+◌, ◌-◌, ◌*◌, ◌≤◌, ◌<◌, length, ltb};
 ghost use Rattle.std.specs.List.{list_any};
 ghost use Rattle.lists.specs.Lists.{range, folded};
 ghost use Rattle.blocks.specs.Blocks.{at, cells, about};
 ghost use Rattle.blocks.specs.Rects.{cells_of};
 ghost use Rattle.binarize.specs.Levels.{marked_means, any_marked, window_level, global_level};
-ghost use Rattle.binarize.specs.Splits.{level_of, with_block, block_step, column_step, no_block, Bounded, InGrid};
+ghost use Rattle.binarize.specs.Splits.{level_of, block_step, column_step, no_block, tally_of, InGrid};
 
 use super::grid::Grid;
+use super::split::Split;
 use blocks::rect::Rect;
-
-// The marked means of a window in two groups, those up to a bound and those above: the sum and the number of each.
-#[derive(Clone, Copy, Default)]
-pub struct Split {
-    pub low: u32,
-    pub lows: u32,
-    pub high: u32,
-    pub highs: u32,
-}
-
-// One block more, which counts if it is marked: by products with 0 or 1, since no branch could be foretold.
-fn with_block(t: Split, v: u8, mark: u8, bound: u8) -> Split
-    requires { Bounded 8388607 t }
-    ensures { (result ≡ with_block bound t v mark) × ((n : ℕ) → Bounded n t → Bounded (n + 1) result) }
-{
-    let on = u32::from(mark == 1);
-    let low = on * u32::from(v <= bound);
-    let high = on - low;
-    Split {
-        low: t.low + v as u32 * low,
-        lows: t.lows + low,
-        high: t.high + v as u32 * high,
-        highs: t.highs + high,
-    }
-}
 
 // Columns a to b of the row that begins at number `from`.
 fn row_split(
@@ -45,12 +21,13 @@ fn row_split(
     bound: u8,
     t: Split,
 ) -> Split
-    requires { (a ≤ b) × (from + b ≤ length means.now) × (from + b ≤ length marks.now) × Bounded (t.lows + t.highs) t × (t.lows + t.highs + (b - a) ≤ 8388607) }
-    ensures { (result ≡ folded (column_step (at means.now) (at marks.now) bound from) t (range a b)) × ((n : ℕ) → Bounded n t → Bounded (n + (b - a)) result) }
+    requires { (a ≤ b) × (from + b ≤ length means.now) × (from + b ≤ length marks.now) × (t.lows + t.highs + (b - a) ≤ 8388607) }
+    ensures counted { tally_of result ≡ folded (column_step (at means.now) (at marks.now) bound from) (tally_of t) (range a b) }
+    ensures few { result.lows + result.highs ≤ t.lows + t.highs + (b - a) }
 {
     let mut r = t;
     for x in a..b {
-        r = with_block(r, means[from + x], marks[from + x], bound);
+        r = r.with_block(means[from + x], marks[from + x], bound);
     }
     r
 }
@@ -58,32 +35,13 @@ fn row_split(
 // The blocks in a window, where a row has w blocks.
 fn window_split(means: &[u8], marks: &[u8], w: usize, window: Rect, bound: u8) -> Split
     requires { InGrid (length means.now) w window × InGrid (length marks.now) w window }
-    ensures { (result ≡ folded (block_step (at means.now) (at marks.now) bound) no_block (cells_of w window)) × Bounded 262144 result }
+    ensures { tally_of result ≡ folded (block_step (at means.now) (at marks.now) bound) no_block (cells_of w window) }
 {
-    let mut t = Split::default();
+    let mut t = Split::new();
     for y in window.top..window.bottom {
         t = row_split(means, marks, y * w, window.left, window.right, bound, t);
     }
     t
-}
-
-// The mean of all.
-fn mean_of(t: Split) -> u8
-    requires { Bounded 262144 t × (0 < t.lows + t.highs) }
-    ensures { result ≡ (t.low + t.high) / (t.lows + t.highs) }
-{
-    ((t.low + t.high) / (t.lows + t.highs)) as u8
-}
-
-// Half the sum of the two groups' means, or the mean of all where a group is empty.
-fn midpoint(t: Split, mean: u8) -> u8
-    requires { Bounded 262144 t }
-    ensures { result ≡ cond (eqb t.lows 0 || eqb t.highs 0) mean ((t.low / t.lows + t.high / t.highs) / 2) }
-{
-    if t.lows == 0 || t.highs == 0 {
-        return mean;
-    }
-    ((t.low / t.lows + t.high / t.highs) / 2) as u8
 }
 
 // The level of a window, where it holds a marked block.
@@ -95,9 +53,9 @@ fn level_in(means: &[u8], marks: &[u8], w: usize, window: Rect) -> Option<u8>
     if all.lows + all.highs == 0 {
         return None;
     }
-    let mean = mean_of(all);
+    let mean = all.mean();
     let two = window_split(means, marks, w, window, mean);
-    Some(midpoint(two, mean))
+    Some(two.midpoint(mean))
 }
 
 // The level of the window of a radius about the block in column x and row y, by one kind of marks.

@@ -16,6 +16,7 @@ mod blank;
 mod grid;
 mod levels;
 mod rows;
+mod split;
 
 // What `binarize` answers for `len` gray bytes, `room` bytes for the bits, and work slices of these lengths.
 pub fn check_binarize(

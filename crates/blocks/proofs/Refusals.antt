@@ -1,18 +1,21 @@
 -- What is known where the checks pass. Assumes nothing.
-use mathlib.Core.Path.{◌≡◌, refl}
-use mathlib.Core.Bool.{Bool, true, false, ◌||◌}
-use mathlib.Core.List.{[], ◌∷◌}
+use mathlib.Core.Path.{◌≡◌, refl, ap}
+use mathlib.Core.Bool.{Bool, false, ◌||◌}
+use mathlib.Core.List.{List, [], ◌∷◌}
 use Prim.Native.Nat.{ℕ, ◌*◌}
 use lib.Dec.{ltb}
 use borrow.Author.Tests.{ltb-false}
+use Rattle.std.specs.List.{list_any}
 use Rattle.lcr_core.specs.Outcome.{zero_side, large_side}
 use Rattle.lcr_core.proofs.Checks.{or_false, first_passes, sides_pass}
 use Rattle.blocks.specs.Blocks.{blocks_in, under, blocks_refusal}
 use Rattle.blocks.specs.Steps.{Passed}
 
-pub or-none : (b : Bool) → b ≡ b || false
-or-none true = refl
-or-none false = refl
+-- what the library's `any` says of the lengths
+pub any_under : (n : ℕ) (ls : List ℕ) → list_any (λ (l : ℕ). ltb l n) ls ≡ under n ls
+unfolding under
+any_under n [] = refl
+any_under n (l ∷ ls) = ap (λ (b : Bool). ltb l n || b) (any_under n ls)
 
 pub passes : (len w h m lo hi e n : ℕ) → blocks_refusal len w h (m ∷ lo ∷ hi ∷ e ∷ n ∷ []) ≡ 0 → Passed len w h m lo hi e n
 unfolding blocks_refusal under

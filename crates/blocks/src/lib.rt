@@ -1,14 +1,14 @@
 // The values and the marks of a picture's 8 × 8 blocks.
 #![tactic(auto)]
 
-ghost use Rattle.std.specs.Prelude.{◌≡◌, ◌∷◌, [], length};
+ghost use Rattle.std.specs.Prelude.{◌≡◌, ◌≤◌, ◌∷◌, [], length, nat_lt};
+ghost use Rattle.std.specs.List.{list_any};
 ghost use Rattle.lcr_core.specs.Outcome.{number_of};
-ghost use Rattle.blocks.specs.Blocks.{mean_at, least_at, greatest_at, edge_at, near_at, under, blocks_refusal, blocks_after};
-ghost use Rattle.blocks.specs.Steps.{Passed};
+ghost use Rattle.blocks.specs.Blocks.{mean_at, least_at, greatest_at, edge_at, near_at, blocks_in, blocks_refusal, blocks_after};
 
 use lcr_core::{Refusal, check_sides};
 use marks::{edge_marks, near_marks};
-use picture::Picture;
+use picture::{Picture, blocks_on};
 use stats::all_values;
 
 mod marks;
@@ -16,30 +16,11 @@ pub mod picture;
 pub mod rect;
 mod stats;
 
-// Whether one of the five work slices is too short for n blocks.
-fn short_work(
-    n: usize,
-    means: usize,
-    least: usize,
-    greatest: usize,
-    edges: usize,
-    nears: usize,
-) -> bool
-    ensures { result ≡ under n (means ∷ least ∷ greatest ∷ edges ∷ nears ∷ []) }
+// Whether a work slice is too short for n blocks.
+fn short_work(n: usize, lengths: [usize; 5]) -> bool
+    ensures { result ≡ list_any (λ length. nat_lt length n) lengths }
 {
-    if means < n {
-        return true;
-    }
-    if least < n {
-        return true;
-    }
-    if greatest < n {
-        return true;
-    }
-    if edges < n {
-        return true;
-    }
-    nears < n
+    lengths.iter().any(|length| *length < n)
 }
 
 // What `block_values` answers for `len` gray bytes and work slices of these lengths.
@@ -61,36 +42,30 @@ pub fn check_blocks(
     if len < w * h {
         return Err(Refusal::ShortPicture);
     }
-    let n = (h + 7) / 8 * ((w + 7) / 8);
-    if short_work(n, means, least, greatest, edges, nears) {
+    let n = blocks_on(h) * blocks_on(w);
+    if short_work(n, [means, least, greatest, edges, nears]) {
         return Err(Refusal::ShortOutput);
     }
     Ok(())
 }
 
-// The values and marks of a picture that passed the checks.
+// The values and marks of a picture, into work slices that have room.
 fn values_checked(
-    gray: &[u8],
-    w: usize,
-    h: usize,
+    picture: Picture,
     means: &mut [u8],
     least: &mut [u8],
     greatest: &mut [u8],
     edges: &mut [u8],
     nears: &mut [u8],
 )
-    requires { Passed (length gray.now) w h (length means.old) (length least.old) (length greatest.old) (length edges.old) (length nears.old) }
-    ensures means_after { means.new ≡ blocks_after 0 w h (mean_at gray.now w h) means.old }
-    ensures least_after { least.new ≡ blocks_after 0 w h (least_at gray.now w h) least.old }
-    ensures greatest_after { greatest.new ≡ blocks_after 0 w h (greatest_at gray.now w h) greatest.old }
-    ensures edges_after { edges.new ≡ blocks_after 0 w h (edge_at gray.now w h) edges.old }
-    ensures nears_after { nears.new ≡ blocks_after 0 w h (near_at gray.now w h) nears.old }
+    requires { let n = blocks_in picture.width picture.height in (n ≤ length means.old) × (n ≤ length least.old) × (n ≤ length greatest.old)
+        × (n ≤ length edges.old) × (n ≤ length nears.old) }
+    ensures means_after { let p = picture.entry in means.new ≡ blocks_after 0 p.width p.height (mean_at p.gray.now p.width p.height) means.old }
+    ensures least_after { let p = picture.entry in least.new ≡ blocks_after 0 p.width p.height (least_at p.gray.now p.width p.height) least.old }
+    ensures greatest_after { let p = picture.entry in greatest.new ≡ blocks_after 0 p.width p.height (greatest_at p.gray.now p.width p.height) greatest.old }
+    ensures edges_after { let p = picture.entry in edges.new ≡ blocks_after 0 p.width p.height (edge_at p.gray.now p.width p.height) edges.old }
+    ensures nears_after { let p = picture.entry in nears.new ≡ blocks_after 0 p.width p.height (near_at p.gray.now p.width p.height) nears.old }
 {
-    let picture = Picture {
-        gray,
-        width: w,
-        height: h,
-    };
     let bw = picture.columns();
     let bh = picture.rows();
     all_values(picture, means, least, greatest);
@@ -127,15 +102,11 @@ pub fn block_values(
         edges.len(),
         nears.len(),
     )?;
-    values_checked(
+    let picture = Picture {
         gray,
-        width as usize,
-        height as usize,
-        means,
-        least,
-        greatest,
-        edges,
-        nears,
-    );
+        width: width as usize,
+        height: height as usize,
+    };
+    values_checked(picture, means, least, greatest, edges, nears);
     Ok(())
 }

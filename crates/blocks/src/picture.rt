@@ -6,6 +6,13 @@ ghost use Rattle.blocks.specs.Rects.{IsBlock};
 
 use super::rect::Rect;
 
+// How many blocks there are along a side: the last one is cut.
+pub fn blocks_on(side: usize) -> usize
+    ensures { result ≡ blocks_on side }
+{
+    side.div_ceil(8)
+}
+
 // The gray values of width × height pixels, row by row.
 #[derive(Clone, Copy)]
 pub struct Picture<'a> {
@@ -21,14 +28,14 @@ impl Picture<'_> {
     pub fn columns(self) -> usize
         ensures { result ≡ blocks_on self.entry.width }
     {
-        self.width.div_ceil(8)
+        blocks_on(self.width)
     }
 
     // How many rows of blocks there are.
     pub fn rows(self) -> usize
         ensures { result ≡ blocks_on self.entry.height }
     {
-        self.height.div_ceil(8)
+        blocks_on(self.height)
     }
 
     // The pixels of block number i.

@@ -10,8 +10,11 @@ returns-in_err-check_blocks c =
     let r = sym q in
     record { refusal = q ∙ c.in_err-check_blocks.ensures; means = unless_error _ _ _ _ r; least = unless_error _ _ _ _ r; greatest = unless_error _ _ _ _ r; edges = unless_error _ _ _ _ r; nears = unless_error _ _ _ _ r }
 
+pub invariant_of-picture : goal.invariant_of-picture
+invariant_of-picture c = let p = passes _ _ _ _ _ _ _ _ (sym c.in_ok-check_blocks.ensures) in record { sides = p.sides; bytes = p.bytes }
+
 pub values_checked-requires : goal.values_checked-requires
-values_checked-requires c = passes _ _ _ _ _ _ _ _ (sym c.in_ok-check_blocks.ensures)
+values_checked-requires c = let p = passes _ _ _ _ _ _ _ _ (sym c.in_ok-check_blocks.ensures) in (p.means, p.least, p.greatest, p.edges, p.nears)
 
 pub returns : goal.returns
 returns c =

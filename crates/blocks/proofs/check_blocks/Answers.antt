@@ -1,5 +1,6 @@
 -- `blocks::check_blocks` meets its contract. Assumes nothing.
-use mathlib.Core.Path.{◌≡◌, refl, sym}
+use Prim.Native.Nat.{◌*◌}
+use mathlib.Core.Path.{◌≡◌, refl, sym, ◌∙◌}
 use mathlib.Core.List.{[], ◌∷◌}
 use borrow.Author.Tests.{lt-ltb, le-ltb}
 use native.Mathlib.Omega.{arith}
@@ -7,8 +8,9 @@ use Rattle.std.specs.Prelude.{take}
 use Rattle.lists.proofs.Numbers.{mul_bound}
 use Rattle.lcr_core.specs.Outcome.{first_of, sides_refusal}
 use Rattle.lcr_core.proofs.Checks.{refused_on, check_refuses, check_passes, sides_known}
-use Rattle.blocks.specs.Blocks.{blocks_on, blocks_checks, blocks_refusal}
-use Rattle.blocks.proofs.check_blocks.Goals.{Else-len-w}
+use Rattle.blocks.specs.Blocks.{blocks_on, blocks_in, under, blocks_checks, blocks_refusal}
+use Rattle.blocks.proofs.Refusals.{any_under}
+use Rattle.blocks.proofs.check_blocks.Goals.{Else-len-w, After-short_work}
 use Rattle.blocks.proofs.check_blocks.Goals as goal
 
 pub returns-in_err-check_sides : goal.returns-in_err-check_sides
@@ -37,16 +39,22 @@ pub overflow_mul-n : goal.overflow_mul-n
 overflow_mul-n c =
     let a = c.args in
     let s = sides_known a.width a.height c.in_ok-check_sides.ensures in
-    omega (arith, mul_bound (blocks_on a.height) (blocks_on a.width) 512 512 (omega arith) (omega arith))
+    rw (c.blocks_on.ensures, c.blocks_on-2.ensures) (omega (arith, mul_bound (blocks_on a.height) (blocks_on a.width) 512 512 (omega arith) (omega arith)))
+
+-- what the work slices' lengths come to
+tested : (c : After-short_work) → let a = c.args in c.short_work.result ≡ under (blocks_in a.width a.height) (a.means ∷ a.least ∷ a.greatest ∷ a.edges ∷ a.nears ∷ [])
+tested c =
+    let a = c.args in
+    rw (c.blocks_on.ensures, c.blocks_on-2.ensures) at (c.short_work.ensures ∙ any_under (c.blocks_on.result * c.blocks_on-2.result) (a.means ∷ a.least ∷ a.greatest ∷ a.edges ∷ a.nears ∷ []))
 
 pub returns-then-short_work : goal.returns-then-short_work
 unfolding blocks_refusal
 returns-then-short_work c =
     let a = c.args in
-    check_refuses 3 (blocks_checks a.len a.width a.height (a.means ∷ a.least ∷ a.greatest ∷ a.edges ∷ a.nears ∷ [])) _ _ refl (passed_3 (goal.at.returns-then-short_work c).Else-len-w) c.if-short_work.ensures
+    check_refuses 3 (blocks_checks a.len a.width a.height (a.means ∷ a.least ∷ a.greatest ∷ a.edges ∷ a.nears ∷ [])) _ _ refl (passed_3 (goal.at.returns-then-short_work c).Else-len-w) (sym c.if-short_work.true ∙ tested (goal.at.returns-then-short_work c).After-short_work)
 
 pub returns : goal.returns
 unfolding blocks_refusal
 returns c =
     let a = c.args in
-    check_passes 3 (blocks_checks a.len a.width a.height (a.means ∷ a.least ∷ a.greatest ∷ a.edges ∷ a.nears ∷ [])) _ _ refl (passed_3 (goal.at.returns c).Else-len-w) c.if-short_work.ensures
+    check_passes 3 (blocks_checks a.len a.width a.height (a.means ∷ a.least ∷ a.greatest ∷ a.edges ∷ a.nears ∷ [])) _ _ refl (passed_3 (goal.at.returns c).Else-len-w) (sym c.if-short_work.false ∙ tested (goal.at.returns c).After-short_work)

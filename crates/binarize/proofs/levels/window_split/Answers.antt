@@ -1,14 +1,13 @@
 use Prim.Native.Nat.{◌+◌, ◌-◌, ◌*◌, ◌≤◌}
-use mathlib.Core.Path.{◌≡◌, refl, sym, ◌∙◌}
+use mathlib.Core.Path.{◌≡◌, sym, ap, ◌∙◌}
 use native.Mathlib.Omega.{arith}
 use lib.ListN.{length}
-use Rattle.lists.specs.Lists.{range}
+use Rattle.lists.specs.Lists.{range, folded}
 use Rattle.lists.proofs.Numbers.{mul_bound, next_row, row_within}
 use Rattle.lists.proofs.Folds.{fold_more, fold_end}
 use Rattle.blocks.specs.Blocks.{at}
 use Rattle.blocks.proofs.Grids.{folded-cells}
-use Rattle.binarize.specs.Splits.{block_step, column_step, row_step, no_block}
-use Rattle.binarize.proofs.Products.{split_same}
+use Rattle.binarize.specs.Splits.{Tally, block_step, column_step, row_step, no_block}
 use Rattle.binarize.proofs.levels.window_split.Goals.{In-loop-y}
 use Rattle.binarize.proofs.levels.window_split.Goals as goal
 
@@ -30,13 +29,19 @@ here c =
     )
 
 pub loop-y-init : goal.loop-y-init
-loop-y-init c = let e = c.default-t.ensures in (refl, omega arith)
+loop-y-init c =
+    let a = c.args in
+    let r = a.window in
+    let e = c.new-t.ensures in (
+      ap (λ (t : Tally). folded (row_step (at a.means.now) (at a.marks.now) a.bound a.w r.left r.right) t (range r.top r.bottom)) (sym e),
+      omega (arith, ap (λ (t : Tally). t.lows) e, ap (λ (t : Tally). t.highs) e),
+    )
 
 pub overflow_mul-y : goal.overflow_mul-y
 overflow_mul-y c = let h = here c in omega arith
 
 pub row_split-t-requires : goal.row_split-t-requires
-row_split-t-requires c = let h = here c in (omega arith, omega arith, omega arith, omega arith, omega arith)
+row_split-t-requires c = let h = here c in omega arith
 
 pub loop-y-preserved : goal.loop-y-preserved
 unfolding row_step
@@ -45,8 +50,8 @@ loop-y-preserved c =
     let a = c.args in
     let r = a.window in
     let e : l.y + 1 - r.top ≡ (l.y - r.top) + 1 = omega arith in (
-      fold_more (row_step (at a.means.now) (at a.marks.now) a.bound a.w r.left r.right) _ _ _ l.y r.bottom (omega arith) l.invariant.0 c.row_split-t.ensures.0,
-      rw (e, next_row) (c.row_split-t.ensures.1 _ l.invariant.1),
+      fold_more (row_step (at a.means.now) (at a.marks.now) a.bound a.w r.left r.right) _ _ _ l.y r.bottom (omega arith) l.invariant.0 c.row_split-t.ensures.counted,
+      rw (e, next_row) (omega arith),
     )
 
 pub returns : goal.returns
@@ -55,11 +60,5 @@ returns c =
     let l = c.loop-y in
     let a = c.args in
     let r = a.window in
-    let n = mul_bound (l.y - r.top) (r.right - r.left) r.bottom a.w (omega arith) (omega (arith, c.requires.0.cols)) in
-    let e = c.default-t.ensures in
-    let z : c.default-t.result ≡ no_block = split_same _ _ e.0 e.1.0 e.1.1.0 e.1.1.1 in (
-      sym (fold_end (row_step (at a.means.now) (at a.marks.now) a.bound a.w r.left r.right) _ _ l.y r.bottom (omega arith) l.invariant.0)
-          ∙ folded-cells (block_step (at a.means.now) (at a.marks.now) a.bound) a.w (range r.left r.right) (range r.top r.bottom) c.default-t.result
-          ∙ rw z refl,
-      omega (arith, c.requires.0.few),
-    )
+    sym (fold_end (row_step (at a.means.now) (at a.marks.now) a.bound a.w r.left r.right) _ _ l.y r.bottom (omega arith) l.invariant.0)
+    ∙ folded-cells (block_step (at a.means.now) (at a.marks.now) a.bound) a.w (range r.left r.right) (range r.top r.bottom) no_block

@@ -1,13 +1,13 @@
 -- `binarize::levels::window_split` meets its contract: the rows before y are counted. Assumes nothing.
-use Prim.Native.Nat.{◌-◌, ◌*◌}
+use Prim.Native.Nat.{◌+◌, ◌-◌, ◌*◌, ◌≤◌}
 use mathlib.Core.Path.{◌≡◌}
 use Rattle.lists.specs.Lists.{range, folded}
 use Rattle.blocks.specs.Blocks.{at}
-use Rattle.binarize.specs.Splits.{row_step, Bounded}
+use Rattle.binarize.specs.Splits.{row_step, no_block, tally_of}
 use Rattle.binarize.proofs.levels.window_split.Given as goal
 
 abbrev pub invariant-loop-y : goal.invariant-loop-y
 invariant-loop-y l =
     let r = l.window in
     let step = row_step (at l.means) (at l.marks) l.bound l.w r.left r.right in
-    (folded step l.initial.t (range r.top r.bottom) ≡ folded step l.t (range l.y r.bottom)) × Bounded ((l.y - r.top) * (r.right - r.left)) l.t
+    (folded step no_block (range r.top r.bottom) ≡ folded step (tally_of l.t) (range l.y r.bottom)) × (l.t.lows + l.t.highs ≤ (l.y - r.top) * (r.right - r.left))
