@@ -11,29 +11,16 @@ use ranking::Eight;
 pub fn finder_at(fs: &[Finder], i: usize) -> Finder
     ensures { result ≡ finder_at fs.now i }
 {
-    if i < fs.len() {
-        return fs[i];
-    }
-    Finder {
-        x: 0.0,
-        y: 0.0,
-        module: 0.0,
-        confirmations: 0,
-    }
+    fs.get(i).copied().unwrap_or(Finder::zero())
 }
 
 // The first eight, however many there are.
 pub fn first_eight(fs: &[Finder]) -> Eight
     ensures { result ≡ eight_of fs.now }
 {
-    let n = fs.len();
-    let a = finder_at(fs, 0);
-    let b = finder_at(fs, 1);
-    let c = finder_at(fs, 2);
-    let d = finder_at(fs, 3);
-    let e = finder_at(fs, 4);
-    let f = finder_at(fs, 5);
-    let g = finder_at(fs, 6);
-    let h = finder_at(fs, 7);
-    ranking::table_of(n, a, b, c, d, e, f, g, h)
+    let mut at = [Finder::zero(); 8];
+    for (i, place) in at.iter_mut().enumerate() {
+        *place = finder_at(fs, i);
+    }
+    ranking::table_of(fs.len(), at)
 }

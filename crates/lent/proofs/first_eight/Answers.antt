@@ -1,8 +1,22 @@
 -- `lent::first_eight` meets its contract. Assumes nothing.
-use Rattle.lists.specs.Lists.{tabulate}
+use mathlib.Core.Path.{refl, ◌∙◌}
+use native.Mathlib.Omega.{arith}
+use Prim.Native.Nat.{min}
+use lib.ListN.{length}
+use Rattle.lists.proofs.Tabulate.{filled_none, filled_step, filled_whole}
 use Rattle.ranking.specs.Ranking.{eight_of}
+use Rattle.ranking.specs.declared.Eight.{Eight}
 use Rattle.lent.proofs.first_eight.Goals as goal
 
+pub loop-i-init : goal.loop-i-init
+loop-i-init c = filled_none _ _
+
+pub loop-i-preserved : goal.loop-i-preserved
+loop-i-preserved c = let l = c.loop-i in filled_step l.i _ _ l.place-items _ c.loop-i-test.true l.invariant c.finder_at.ensures
+
 pub returns : goal.returns
-unfolding eight_of tabulate
-returns c = rw (c.table_of.ensures, c.finder_at-a.ensures, c.finder_at-b.ensures, c.finder_at-c.ensures, c.finder_at-d.ensures, c.finder_at-e.ensures, c.finder_at-f.ensures, c.finder_at-g.ensures, c.finder_at-h.ensures)
+unfolding eight_of
+returns c =
+    let l = c.loop-i in
+    let at = filled_whole l.i _ _ l.place-items (omega (arith, c.loop-i-test.false, l.auto.i-end)) l.invariant in
+    c.table_of.ensures ∙ rw at refl
