@@ -1,5 +1,5 @@
 -- The table of detections, triple by triple, and the tables of finders that they come from. Assumes nothing.
-use mathlib.Core.Path.{◌≡◌, sym, ◌∙◌, ap}
+use mathlib.Core.Path.{◌≡◌, refl, sym, ◌∙◌, ap}
 use mathlib.Core.Bool.{true, false}
 use mathlib.Core.List.{List, [], ◌∷◌, ◌++◌, append-nil}
 use Prim.Native.Nat.{ℕ, ◌+◌, ◌≤◌, ◌<◌, min}
@@ -7,6 +7,7 @@ use native.Mathlib.Omega.{arith}
 use lib.ListN.{length, get_or, set, take, length-append, length-take}
 use lib.Seq.{get_or-take, take_all}
 use Rattle.lists.specs.Lists.{padded, flat_map, tabulate}
+use Rattle.lists.proofs.Tabulate.{tabulate_ext}
 use Rattle.lists.proofs.Padded.{get_d_any, get_or-padded, get_or_table, padded_more}
 use Rattle.lists.proofs.Filters.{each_map}
 use Rattle.lists.proofs.Folds.{flat_map-take, flat_map_few, flat_map_same}
@@ -124,12 +125,10 @@ module _ (bits : List ℕ) (w h : ℕ) (fs : List Finder) where
   detections_in_lem t e = ap (λ (t : Eight). detections_of bits w h (in_use t)) e ∙ ap (detections_of bits w h) (in_use_lem fs) ∙ detections_eight
 
 -- ---- the first eight of a search
-pub first-eight : (t : Finders) (fs : List Finder) (d : Finder) (r : Eight) → t ≡ finders_table fs
-    → r ≡ record { count = min t.count 8; at = get_or t.table 0 d ∷ get_or t.table 1 d ∷ get_or t.table 2 d ∷ get_or t.table 3 d ∷ get_or t.table 4 d ∷ get_or t.table 5 d ∷ get_or t.table 6 d ∷ get_or t.table 7 d ∷ [] }
-    → r ≡ eight_of fs
-unfolding eight_of tabulate
-first-eight t fs d r e h =
-    h ∙ rw (e, at 0 (omega arith), at 1 (omega arith), at 2 (omega arith), at 3 (omega arith), at 4 (omega arith), at 5 (omega arith), at 6 (omega arith), at 7 (omega arith))
-  where
-    at : (i : ℕ) → i < 128 → get_or (padded 128 zero_finder fs) i d ≡ finder_at fs i
-    at i l = get_or_table 128 zero_finder fs i d l
+eight_same : (n : ℕ) (xs ys : List Finder) → xs ≡ ys → ◌≡◌ {A = Eight} (record { count = n; at = xs }) (record { count = n; at = ys })
+eight_same n xs ys e = rw e refl
+
+pub first_eight_is : (t : Finders) (fs : List Finder) (e r : Eight) → t ≡ finders_table fs → e ≡ eight_of t.table → r ≡ record { count = min t.count 8; at = e.at } → r ≡ eight_of fs
+unfolding eight_of
+first_eight_is t fs e r q g h =
+    h ∙ rw (g, q) (eight_same (min (length fs) 8) _ _ (tabulate_ext 8 _ _ (λ i l. get_or_table 128 zero_finder fs i zero_finder (omega (arith, l)))))

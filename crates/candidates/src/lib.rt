@@ -209,10 +209,7 @@ pub fn candidates_in(bits: &[u8], width: u32, height: u32, t: Eight) -> Answer
 pub fn eight_in(t: Finders) -> Eight
     ensures { (fs : List Finder) → t ≡ finders_table fs → result ≡ eight_of fs }
 {
-    let at = t.table;
-    ranking::table_of(
-        t.count, at[0], at[1], at[2], at[3], at[4], at[5], at[6], at[7],
-    )
+    ranking::table_of(t.count, lent::first_eight(&t.table).at)
 }
 
 // The detections of a picture: refusals 1, 2, 4, and 6 where it has too many finders.
