@@ -76,6 +76,8 @@ fn marks_of<'a>(edges: &'a [u8], nears: &'a [u8], kind: usize) -> &'a [u8]
 }
 
 // The level of the block in column x and row y: the first of four windows that holds a marked block gives it, otherwise it is the global level.
+// It stays a call: most blocks need no window, and inlined its bounds are worked out for each of them, which takes 4 % more instructions where few are marked.
+#[inline(never)]
 pub fn block_level(grid: Grid, x: usize, y: usize, global: u8) -> u8
     requires { (x < grid.width) × (y < grid.height) }
     ensures { let g = grid.entry in result ≡ window_level (at g.means.now) (at g.edges.now) (at g.nears.now) g.width g.height x y global }
