@@ -1,8 +1,8 @@
 -- What is known where the checks pass, and what a refusal gives. Assumes nothing.
-use mathlib.Core.Path.{◌≡◌, refl, sym, ap, ◌∙◌}
+use mathlib.Core.Path.{◌≡◌, sym, ap, ◌∙◌}
 use mathlib.Core.Bool.{false, not}
 use mathlib.Core.List.{List, [], ◌∷◌, ◌++◌}
-use Prim.Native.Nat.{ℕ, zero, suc, ◌+◌, ◌≤◌, ◌<◌}
+use Prim.Native.Nat.{ℕ, ◌+◌, ◌≤◌, ◌<◌}
 use native.Mathlib.Numerals.{add-one}
 use lib.Dec.{eqb}
 use lib.ListN.{length, set, length-append}
@@ -10,7 +10,7 @@ use borrow.Author.Tests.{ltb-false}
 use Rattle.lists.specs.Lists.{tabulate, padded}
 use Rattle.lists.proofs.Padded.{padded_more}
 use Rattle.lists.proofs.Tabulate.{length-tabulate}
-use Rattle.lcr_core.specs.Outcome.{first_of, zero_side, large_side, unless}
+use Rattle.lcr_core.specs.Outcome.{first_of, zero_side, large_side}
 use Rattle.lcr_core.specs.Passed.{Sides}
 use Rattle.lcr_core.proofs.Checks.{or_false, first_passes, sides_pass}
 use Rattle.geometry.specs.declared.Finder.{Finder}
@@ -18,8 +18,7 @@ use Rattle.geometry.specs.Order.{zero_finder}
 use Rattle.finders.specs.declared.Finders.{Finders}
 use Rattle.finders.specs.Search.{max_finders}
 use Rattle.finders.specs.Answer.{table_of}
-use Rattle.stored.specs.declared.Stored.{Stored}
-use Rattle.stored.specs.Stored.{size_of, width_in, height_in, count_in, finder_at, bad_head, many_finders, bad_length, read_refusal, read_of, short_output, write_checks}
+use Rattle.stored.specs.Stored.{size_of, width_in, height_in, count_in, bad_head, many_finders, bad_length, read_refusal, short_output, write_checks}
 
 few_finders : (n : ℕ) → many_finders n ≡ false → n ≤ max_finders
 unfolding many_finders
@@ -34,22 +33,6 @@ read_pass bytes e =
     let r = first_passes (large_side (width_in bytes) (height_in bytes)) 1 _ q.1 in
     let s = first_passes (bad_length (length bytes) (count_in bytes)) 7 _ r.1 in
     few_finders (count_in bytes) (or_false (many_finders (count_in bytes)) (not (eqb (length bytes) (size_of (count_in bytes)))) s.0).0
-
-pub read_refused : (bytes : List ℕ) (n : ℕ) (t : Finders) → n ≡ read_refusal bytes → (n ≡ 0 → ⊥) → t ≡ table_of []
-    → record { refusal = n; width = 0; height = 0; finders = t } ≡ read_of bytes
-unfolding read_of
-read_refused bytes n t e h w = rw (w, ← e) (go n h)
-  where
-    go : (n : ℕ) → (n ≡ 0 → ⊥) → ◌≡◌ {A = Stored} (record { refusal = n; width = 0; height = 0; finders = table_of [] })
-        (record { refusal = n; width = unless n 0 (width_in bytes); height = unless n 0 (height_in bytes); finders = table_of (unless n [] (tabulate (count_in bytes) (finder_at bytes (count_in bytes)))) })
-    go zero h = absurd (h refl)
-    go (suc n) h = refl
-
-pub read_done : (bytes : List ℕ) (n w h : ℕ) (t : Finders) → n ≡ read_refusal bytes → n ≡ 0 → w ≡ width_in bytes → h ≡ height_in bytes
-    → t ≡ table_of (tabulate (count_in bytes) (finder_at bytes (count_in bytes)))
-    → record { refusal = 0; width = w; height = h; finders = t } ≡ read_of bytes
-unfolding read_of
-read_done bytes n w h t e z p q r = rw (p, q, r, sym e ∙ z)
 
 -- one finder more in a table
 pub one_more : (t : Finders) (g : ℕ → Finder) (k : ℕ) (f : Finder) → t ≡ table_of (tabulate k g) → k < max_finders → f ≡ g k

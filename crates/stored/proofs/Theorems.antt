@@ -11,12 +11,14 @@ use lib.Seq.{split_at, length-take-le, get_or-append-add, ext_get_or, take_at}
 use lib.Ieee.{binary32, to_bits, fits}
 use lib.Ieee.Bits.{of_bits-to_bits, to_bits-lt}
 use borrow.Author.Tests.{le-ltb, eq-eqb, ne_eqb}
+use Rattle.std.specs.Prelude.{Ok}
 use Rattle.lists.specs.Lists.{Each, tabulate, flat_map, written}
 use Rattle.lists.proofs.Filters.{each_get_or}
 use Rattle.lists.proofs.Folds.{flat_map-append}
 use Rattle.lists.proofs.Tabulate.{length-tabulate, get_d_tabulate}
 use Rattle.lcr_core.specs.Outcome.{zero_side, large_side}
 use Rattle.lcr_core.specs.Passed.{Sides}
+use Rattle.lcr_core.proofs.Answers.{checked_passed}
 use Rattle.little_endian.specs.Bytes.{bytes_le, read_le}
 use Rattle.little_endian.proofs.Pieces.{length_flat}
 use Rattle.little_endian.proofs.Round.{length_bytes, read_after, read_bytes}
@@ -24,7 +26,7 @@ use Rattle.geometry.specs.declared.Finder.{Finder}
 use Rattle.geometry.specs.Order.{zero_finder}
 use Rattle.finders.specs.Search.{max_finders}
 use Rattle.finders.specs.Answer.{table_of}
-use Rattle.stored.specs.Stored.{head_bytes, place_bytes, size_bytes, size_of, stored_bytes, width_in, height_in, count_in, finder_at, bad_head, many_finders, bad_length, read_refusal, read_of}
+use Rattle.stored.specs.Stored.{head_bytes, place_bytes, size_bytes, size_of, stored_bytes, width_in, height_in, count_in, finder_at, bad_head, many_finders, bad_length, read_checks, read_refusal, list_in, read_of}
 use Rattle.stored.proofs.Bytes.{length-place, length_size, length_head, length_stored}
 
 -- a finder as the code has it: three f32 and a u32
@@ -166,10 +168,12 @@ module _ (w h : ℕ) (fs : List Finder) where
         let l = length_stored w h fs in
         rw (width_is (omega (arith, p.w_most)), height_is (omega (arith, p.h_most)), count_is, form_is, no_zero, no_large, le-ltb (length B) 6 (omega arith), le-ltb max_finders n few, eq-eqb (length B) (size_of n) l)
 
-    read_again : Each Storable fs → read_of (stored_bytes w h fs) ≡ record { refusal = 0; width = w; height = h; finders = table_of fs }
-    unfolding read_of
-    read_again s = rw (done, width_is (omega (arith, p.w_most)), height_is (omega (arith, p.h_most)), count_is, finders_are s)
+    read_again : Each Storable fs → read_of (stored_bytes w h fs) ≡ Ok (record { width = w; height = h; finders = table_of fs })
+    unfolding read_refusal read_of
+    read_again s =
+        let B = stored_bytes w h fs in
+        sym (checked_passed (read_checks B) (list_in B) (sym done)) ∙ rw (width_is (omega (arith, p.w_most)), height_is (omega (arith, p.h_most)), count_is, finders_are s)
 
     -- of what the writer leaves, the part that it wrote
-    written_is_read : (old : List ℕ) → Each Storable fs → read_of (take (size_of n) (written (stored_bytes w h fs) old)) ≡ record { refusal = 0; width = w; height = h; finders = table_of fs }
+    written_is_read : (old : List ℕ) → Each Storable fs → read_of (take (size_of n) (written (stored_bytes w h fs) old)) ≡ Ok (record { width = w; height = h; finders = table_of fs })
     written_is_read old s = ap read_of (take_at (stored_bytes w h fs) (drop (length (stored_bytes w h fs)) old) (size_of n) (length_stored w h fs)) ∙ read_again s

@@ -1,9 +1,11 @@
 -- The stored list of a picture's finders, its reader and its writer (document 01, "The eight refusal numbers", last paragraph). Definitions only.
-use Rattle.std.specs.Prelude.{ℕ, ◌+◌, ◌*◌, Bool, not, ◌||◌, List, [], ◌∷◌, ◌++◌, eqb, ltb, length, get_or}
+use Rattle.std.specs.Prelude.{ℕ, ◌+◌, ◌*◌, Bool, not, ◌||◌, List, [], ◌∷◌, ◌++◌, eqb, ltb, length, get_or, Result}
 use Rattle.std.specs.Float.{binary32}
 use Rattle.std.specs.Float.Ieee.{to_bits, of_bits}
 use Rattle.lists.specs.Lists.{tabulate, flat_map}
-use Rattle.lcr_core.specs.Outcome.{Check, first_of, unless, zero_side, large_side}
+use Rattle.lcr_core.specs.Outcome.{Check, first_of, zero_side, large_side}
+use Rattle.lcr_core.specs.Answer.{checked}
+use Rattle.lcr_core.specs.declared.Refusal.{Refusal}
 use Rattle.lcr_core.specs.declared.Refusal.TheVariants.{ZeroSide, LargeSide, ShortOutput, BadList}
 use Rattle.little_endian.specs.Bytes.{bytes_le, read_le}
 use Rattle.geometry.specs.declared.Finder.{Finder}
@@ -79,16 +81,13 @@ read_checks bytes =
 unfoldable pub read_refusal : List ℕ → ℕ
 read_refusal bytes = first_of (read_checks bytes)
 
--- `read_list`: what the list holds, or a refusal's number and zeros
-unfoldable pub read_of : List ℕ → Stored
-read_of bytes =
-    let n = read_refusal bytes in
-    record {
-      refusal = n;
-      width = unless n 0 (width_in bytes);
-      height = unless n 0 (height_in bytes);
-      finders = table_of (unless n [] (tabulate (count_in bytes) (finder_at bytes (count_in bytes))));
-    }
+-- what the list holds
+abbrev pub list_in : List ℕ → Stored
+list_in bytes = record { width = width_in bytes; height = height_in bytes; finders = table_of (tabulate (count_in bytes) (finder_at bytes (count_in bytes))) }
+
+-- `read_list`: that, or a refusal
+unfoldable pub read_of : List ℕ → Result Stored Refusal
+read_of bytes = checked (read_checks bytes) (list_in bytes)
 
 -- ---- the writer
 -- 5: the output is too short

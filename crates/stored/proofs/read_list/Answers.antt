@@ -1,27 +1,21 @@
 -- `stored::read_list` meets its contract. Assumes nothing.
-use mathlib.Core.Path.{◌≡◌, sym, ap, ◌∙◌}
+use mathlib.Core.Path.{sym, ◌∙◌}
 use native.Mathlib.Omega.{arith}
-use Prim.Native.Nat.{ℕ}
-use Rattle.lists.specs.Lists.{tabulate}
+use Rattle.lcr_core.proofs.Answers.{checked_passed, refused_by}
 use Rattle.little_endian.proofs.One.{read_one}
-use Rattle.finders.specs.Answer.{table_of}
-use Rattle.stored.specs.Stored.{finder_at, read_refusal}
-use Rattle.stored.proofs.Pass.{read_pass, read_refused, read_done}
-use Rattle.stored.proofs.read_list.Goals.{After-number-n}
+use Rattle.stored.specs.Stored.{read_checks, read_refusal, list_in, read_of}
+use Rattle.stored.proofs.Pass.{read_pass}
 use Rattle.stored.proofs.read_list.Goals as goal
 
--- what the checks give
-checked : (c : After-number-n) → c.number-n.result ≡ read_refusal c.args.bytes.now
-checked c = c.number-n.ensures ∙ c.check_read.ensures
+pub returns-in_err-check_read : goal.returns-in_err-check_read
+unfolding read_refusal read_of
+returns-in_err-check_read c = let b = c.args.bytes.now in refused_by _ _ c.from_residual.ensures.1 (read_checks b) (list_in b) c.in_err-check_read.ensures
 
-pub returns-then-n-ne0 : goal.returns-then-n-ne0
-returns-then-n-ne0 c = read_refused _ _ _ (checked (goal.at.returns-then-n-ne0 c).After-number-n) c.if-n-ne0.true c.no_finders-none.ensures
-
-pub read_finders-found-requires : goal.read_finders-found-requires
-read_finders-found-requires c = omega (arith, c.get.ensures, read_one c.args.bytes.now 5, read_pass _ (sym (checked (goal.at.read_finders-found-requires c).After-number-n) ∙ c.if-n-ne0.false))
+pub read_finders-requires : goal.read_finders-requires
+read_finders-requires c = omega (arith, c.get-3.ensures, read_one c.args.bytes.now 5, read_pass _ (sym c.in_ok-check_read.ensures))
 
 pub returns : goal.returns
+unfolding read_refusal read_of
 returns c =
-    let a = c.args in
-    read_done _ _ _ _ _ (checked (goal.at.returns c).After-number-n) c.if-n-ne0.false c.get-2.ensures c.get-3.ensures
-    (c.read_finders-found.ensures ∙ ap (λ (z : ℕ). table_of (tabulate z (finder_at a.bytes.now z))) (c.get.ensures ∙ read_one a.bytes.now 5))
+    let b = c.args.bytes.now in
+    rw (c.get.ensures, c.get-2.ensures, c.read_finders.ensures, c.get-3.ensures ∙ read_one b 5) (checked_passed (read_checks b) (list_in b) c.in_ok-check_read.ensures)
