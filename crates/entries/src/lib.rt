@@ -79,7 +79,10 @@ pub fn plate_finders(bits: &[u8], width: u32, height: u32, list: &mut [u8]) -> u
     }
     let held = found.finders;
     let written = stored::write_list(held, width, height, list);
-    written.refusal
+    match written {
+        Ok(_) => 0,
+        Err(refusal) => u8::from(refusal),
+    }
 }
 
 // What is refused before the search, for so many bytes of bits and of room.

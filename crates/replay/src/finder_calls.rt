@@ -15,12 +15,20 @@ fn find_finders(p: &[u8], out: &mut [u8]) -> usize {
 }
 
 fn read_list(p: &[u8], out: &mut [u8]) -> usize {
-    let r = stored::read_list(p);
-    little_endian::put::<u8>(out, 0, r.refusal);
-    little_endian::put::<u32>(out, 1, r.width as u32);
-    little_endian::put::<u32>(out, 5, r.height as u32);
-    let t = r.finders;
-    values::put_finders(out, 9, t)
+    match stored::read_list(p) {
+        Ok(list) => {
+            little_endian::put::<u8>(out, 0, 0);
+            little_endian::put::<u32>(out, 1, list.width as u32);
+            little_endian::put::<u32>(out, 5, list.height as u32);
+            values::put_finders(out, 9, list.finders)
+        }
+        Err(refusal) => {
+            little_endian::put::<u8>(out, 0, u8::from(refusal));
+            little_endian::put::<u32>(out, 1, 0);
+            little_endian::put::<u32>(out, 5, 0);
+            values::put_finders(out, 9, finders::no_finders())
+        }
+    }
 }
 
 fn write_list(p: &[u8], out: &mut [u8]) -> usize {
@@ -28,13 +36,13 @@ fn write_list(p: &[u8], out: &mut [u8]) -> usize {
         return 0;
     }
     let mut list = [0u8; slices::LONGEST];
-    let r = stored::write_list(
+    let written = stored::write_list(
         values::finders_at(p, 16, little_endian::get::<u32>(p, 12)),
         little_endian::get::<u32>(p, 0),
         little_endian::get::<u32>(p, 4),
         slices::lent(&mut list, p, 8),
     );
-    little_endian::put::<u8>(out, 0, r.refusal);
+    little_endian::put::<u8>(out, 0, lcr_core::number(written.map(|_| ())));
     slices::put_lent(out, 1, &list, p, 8);
     13
 }
