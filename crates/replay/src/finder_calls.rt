@@ -73,7 +73,15 @@ fn limited_run(p: &[u8]) -> Run {
     if little_endian::get::<u8>(p, 8) == 1 {
         return line::limited_back(bits, 0, 1, from, limit, want);
     }
-    line::limited_on(bits, 0, 1, little_endian::get::<u16>(p, 0), from, limit, want)
+    line::limited_on(
+        bits,
+        0,
+        1,
+        little_endian::get::<u16>(p, 0),
+        from,
+        limit,
+        want,
+    )
 }
 
 fn run_end(p: &[u8], out: &mut [u8]) -> usize {

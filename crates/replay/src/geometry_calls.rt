@@ -68,7 +68,10 @@ fn module_center(p: &[u8], out: &mut [u8]) -> usize {
     values::put_point(
         out,
         0,
-        t.module_center(little_endian::get::<u16>(p, 88), little_endian::get::<u16>(p, 90)),
+        t.module_center(
+            little_endian::get::<u16>(p, 88),
+            little_endian::get::<u16>(p, 90),
+        ),
     );
     8
 }
@@ -78,7 +81,10 @@ fn local_pitch(p: &[u8], out: &mut [u8]) -> usize {
     values::put_float(
         out,
         0,
-        t.local_pitch(little_endian::get::<u16>(p, 88), little_endian::get::<u16>(p, 90)),
+        t.local_pitch(
+            little_endian::get::<u16>(p, 88),
+            little_endian::get::<u16>(p, 90),
+        ),
     );
     4
 }
