@@ -1,6 +1,6 @@
 -- Parts of records and answers (docs/REPLAY.md, "Form"): "All numbers are little-endian, floats are their bits." A byte beyond a slice reads as 0 and is not
 -- written. The bytes of floats, finders, transforms and detections are the firmware's. Definitions only.
-use Rattle.std.specs.Prelude.{◌≡◌, ℕ, zero, suc, ◌+◌, ◌*◌, ◌/◌, ◌%◌, ◌^◌, ◌≤◌, min, Bool, true, false, cond, ◌⊎◌, List, [], ◌∷◌, ◌++◌, length, take, drop, replicate, ◌==◌, bit_xor, from_bits, nat_lt, slice_index, slice_index_or, Float}
+use Rattle.std.specs.Prelude.{◌≡◌, ℕ, zero, suc, ◌+◌, ◌*◌, ◌/◌, ◌%◌, ◌^◌, ◌≤◌, min, Bool, true, false, cond, Option, IfSome, List, [], ◌∷◌, ◌++◌, length, take, drop, replicate, ◌==◌, bit_xor, from_bits, nat_lt, slice_index, slice_index_or, Float}
 use Rattle.std.specs.Float.{nan, binary32, binary64}
 use Rattle.lists.specs.Lists.{tabulate, flat_map, folded}
 use Rattle.little_endian.specs.Bytes.{bytes_le, read_le, put}
@@ -152,15 +152,11 @@ fixed_part f = lookup f fixed_parts
 abbrev pub asked_of : ℕ → ℕ → ℕ
 asked_of f len = cond (nat_lt len (fixed_part f)) 0 f
 
--- no record: the input ended, or the payload has no room
-abbrev pub no_call : Call
-no_call = record { read = false; function = 0; len = 0 }
-
 -- what holds of a slice before and after a record was read into it: no record, or one whose payload of len bytes stands at the front, what follows it untouched
-abbrev pub ReadInto : Call → List ℕ → List ℕ → Type 0
+abbrev pub ReadInto : Option Call → List ℕ → List ℕ → Type 0
 ReadInto r before after =
     (length after ≡ length before)
-    × ((r ≡ no_call) ⊎ ((r.read ≡ true) × (r.len ≤ length after) × (fixed_part r.function ≤ r.len) × (drop r.len after ≡ drop r.len before)))
+    × IfSome r (λ (c : Call). (c.len ≤ length after) × (fixed_part c.function ≤ c.len) × (drop c.len after ≡ drop c.len before))
 
 -- ---- the line
 -- a hexadecimal digit, lower case

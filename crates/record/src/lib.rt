@@ -2,9 +2,9 @@
 // A byte beyond a slice reads as 0 and is not written.
 #![tactic(auto)]
 
-ghost use Rattle.std.specs.Prelude.{◌≡◌, ◌+◌, ◌*◌, ◌%◌, ◌≤◌, length};
+ghost use Rattle.std.specs.Prelude.{◌≡◌, ◌+◌, ◌*◌, ◌%◌, ◌≤◌, length, take};
 ghost use Rattle.little_endian.specs.Bytes.{put};
-ghost use Rattle.record.specs.Record.{fixed_part, asked_of, no_call, ReadInto, digit_of, digits_line, answer_line, line_of};
+ghost use Rattle.record.specs.Record.{fixed_part, asked_of, ReadInto, digit_of, digits_line, answer_line, line_of};
 
 pub mod slices;
 pub mod values;
@@ -12,11 +12,9 @@ pub mod values;
 // The most bytes of an answer.
 pub const ANSWER: usize = 2304;
 
-// A record that was read: its function's number, 0 where the payload is too short for it, and the payload's length. None where the input ends or the
-// payload has no room.
-#[derive(Drop)]
+// A record that was read: its function's number, 0 where the payload is too short for it, and the payload's length.
+#[derive(Clone, Copy)]
 pub struct Call {
-    pub read: bool,
     pub function: u8,
     pub len: usize,
 }
@@ -26,6 +24,14 @@ pub struct Call {
 pub struct Line {
     pub text: [u8; 4609],
     pub len: usize,
+}
+
+impl Line {
+    pub fn as_slice(&self) -> &[u8]
+        ensures { result.now ≡ take self.now.len self.now.text }
+    {
+        slices::front(&self.text, self.len)
+    }
 }
 
 // How many bytes the payload of a function has before its lists and its rest.
@@ -82,37 +88,26 @@ fn asked(function: u8, len: usize) -> u8
     function
 }
 
-fn no_call() -> Call
-    ensures { result ≡ no_call }
-{
-    Call {
-        read: false,
-        function: 0,
-        len: 0,
-    }
-}
-
-// Reads a record, its payload to the front of the slice. Left free is what the input gives: the function's number, the payload and its length, and whether
-// it ends; and, where it does, what the slice holds.
-pub fn read(payload: &mut [u8]) -> Call
+// Reads a record, its payload to the front of the slice; None where the input ends or the payload has no room. Left free is what the input gives: the
+// function's number, the payload and its length, and whether it ends; and, where it does, what the slice holds.
+pub fn read(payload: &mut [u8]) -> Option<Call>
     ensures { ReadInto result payload.old payload.new }
 {
     let mut head = [0u8; 5];
     if io::read_full(0, &mut head) < 5 {
-        return no_call();
+        return None;
     }
     let len = little_endian::get::<u32>(&head, 1) as usize;
     if payload.len() < len {
-        return no_call();
+        return None;
     }
     if io::read_full(0, &mut payload[..len]) < len {
-        return no_call();
+        return None;
     }
-    Call {
-        read: true,
+    Some(Call {
         function: asked(head[0], len),
         len,
-    }
+    })
 }
 
 fn digit(n: u8) -> u8
@@ -152,4 +147,32 @@ pub fn answer_line(out: &[u8; ANSWER], n: usize) -> Line
     }
     let len = spell(out, n.min(ANSWER), &mut text);
     Line { text, len }
+}
+
+// Reads a record and prints its answer; false where the input ends, or the line cannot be written.
+fn step<F: Fn(u8, &[u8], &mut [u8]) -> usize>(
+    payload: &mut [u8; slices::LONGEST],
+    answer: &F,
+) -> bool
+    requires { F.IsAlwaysCallable answer.now }
+{
+    let Some(c) = read(payload) else {
+        return false;
+    };
+    let mut out = [0u8; ANSWER];
+    let n = answer(c.function, slices::front(payload, c.len), &mut out);
+    io::write_all(1, answer_line(&out, n).as_slice())
+}
+
+// Runs the calls of standard input, up to four thousand million, and prints a line for each. To a function's number and a payload, `answer` writes the
+// bytes of the answer, and tells how many they are: none for a function that it does not know.
+pub fn run<F: Fn(u8, &[u8], &mut [u8]) -> usize>(answer: F)
+    requires { F.IsAlwaysCallable answer }
+{
+    let mut payload = [0u8; slices::LONGEST];
+    for _ in 0..4_000_000_000u32 {
+        if !step(&mut payload, &answer) {
+            return;
+        }
+    }
 }

@@ -74,27 +74,6 @@ fn answer(function: u8, p: &[u8], out: &mut [u8]) -> usize {
     }
 }
 
-// Reads a record and prints its answer; false where the input ends, or the line cannot be written.
-fn step(payload: &mut [u8; slices::LONGEST]) -> bool {
-    let c = record::read(payload);
-    if !c.read {
-        return false;
-    }
-    let mut out = [0u8; record::ANSWER];
-    let n = answer(c.function, slices::front(payload, c.len), &mut out);
-    let line = record::answer_line(&out, n);
-    let text = line.text;
-    io::write_all(1, slices::front(&text, line.len))
-}
-
-// All records, up to four thousand million.
 fn main() {
-    let mut payload = [0u8; slices::LONGEST];
-    let mut records: u32 = 0;
-    while records < 4000000000 {
-        if !step(&mut payload) {
-            return;
-        }
-        records += 1;
-    }
+    record::run(answer);
 }

@@ -1,15 +1,9 @@
 -- `record::read` meets its contract. Assumes nothing.
-use Rattle.std.proofs.Common.{◌≤◌, length, refl, inl, inr, arith, length-take}
+use Rattle.std.proofs.Common.{◌≤◌, length, arith, length-take}
 use Rattle.record.specs.Record.{fixed_part}
 use Rattle.record.proofs.FixedParts.{asked_fits}
 use Rattle.record.proofs.SliceLaws.{kept_long, kept_rest}
 use Rattle.record.proofs.read.Goals as goal
-
-pub returns-then-read_full-lt5 : goal.returns-then-read_full-lt5
-returns-then-read_full-lt5 c = (refl, inl c.no_call.ensures)
-
-pub returns-then-payload-len : goal.returns-then-payload-len
-returns-then-payload-len c = (refl, inl c.no_call-then-payload-len.ensures)
 
 pub slice_bounds-read_full-end-3 : goal.slice_bounds-read_full-end-3
 slice_bounds-read_full-end-3 c = simp length-take (omega arith)
@@ -20,7 +14,7 @@ returns-then-read_full-len c =
     let n = c.get-len.result in
     let p = c.read_full-2.new.buf in
     let h : n ≤ length l = omega (arith, c.if-payload-len.false) in
-    (kept_long n l p h c.read_full-2.auto.buf, inl c.no_call-then-read_full-len.ensures)
+    (kept_long n l p h c.read_full-2.auto.buf, tt)
 
 pub returns : goal.returns
 returns c =
@@ -30,4 +24,4 @@ returns c =
     let h : n ≤ length l = omega (arith, c.if-payload-len.false) in
     let k = c.read_full-2.auto.buf in
     let f : fixed_part c.asked.result ≤ n = rw c.asked.ensures (asked_fits _ n) in
-    (kept_long n l p h k, inr (refl, rw (kept_long n l p h k) h, f, kept_rest n l p h k))
+    (kept_long n l p h k, (rw (kept_long n l p h k) h, f, kept_rest n l p h k))
