@@ -2,7 +2,9 @@
 use Rattle.std.specs.Prelude.{Option, Some, None}
 use mathlib.Core.Path.{◌≡◌, refl, sym, ap, ◌∙◌}
 use mathlib.Core.List.{List, [], ◌∷◌, ◌++◌, append-nil, append_assoc}
-use Prim.Native.Nat.{ℕ, ◌+◌, ◌≤◌, ◌<◌}
+use mathlib.Core.Logic.{◌⊎◌, inl, inr}
+use Prim.Native.Nat.{ℕ, ◌+◌, ◌≤◌, ◌<◌, min}
+use Rattle.std.proofs.lemmas.Bool.{cases_lt}
 use native.Mathlib.Numerals.{add-one}
 use native.Mathlib.Omega.{arith}
 use lib.ListN.{length, take, get_or, length-append}
@@ -129,9 +131,11 @@ module _ {A : Type 0} (g : A → List ℕ) where
   lines_next xs k d i o r a b c h p q =
       wrote_as (flat_map g (take k xs) ++ g (get_or xs k d)) (flat_map g (take (k + 1) xs)) i r a c (sym (flat_map-take g xs k d h)) (wrote_then (flat_map g (take k xs)) (g (get_or xs k d)) i o r a b c p q)
 
-  -- as many as are counted, and all there are where more are counted
-  pub lines_counted : (xs : List A) (k n i r : ℕ) (a b : List ℕ) → k ≡ n → Wrote (flat_map g (take k xs)) i a r b → Wrote (flat_map g (take n xs)) i a r b
-  lines_counted xs k n i r a b e p = wrote_as (flat_map g (take k xs)) (flat_map g (take n xs)) i r a b (ap (λ z. flat_map g (take z xs)) e) p
-
-  pub lines_all : (xs : List A) (k n i r : ℕ) (a b : List ℕ) → length xs ≤ k → k ≤ n → Wrote (flat_map g (take k xs)) i a r b → Wrote (flat_map g (take n xs)) i a r b
-  lines_all xs k n i r a b h l p = wrote_as (flat_map g (take k xs)) (flat_map g (take n xs)) i r a b (ap (flat_map g) (take_all k xs h ∙ sym (take_all n xs (omega arith)))) p
+  -- the first m of them, which are as many as are counted, or all there are where more are counted
+  pub lines_all : (xs : List A) (m k n most i r : ℕ) (a b : List ℕ) → length xs ≡ most → m ≡ min n most → length (take m xs) ≤ k → Wrote (flat_map g (take k (take m xs))) i a r b → Wrote (flat_map g (take n xs)) i a r b
+  lines_all xs m k n most i r a b l e h p =
+      wrote_as (flat_map g (take k (take m xs))) (flat_map g (take n xs)) i r a b (ap (flat_map g) (take_all k (take m xs) h ∙ go (cases_lt n most))) p
+    where
+      go : (n < most) ⊎ (most ≤ n) → take m xs ≡ take n xs
+      go (inl q) = let z : m ≡ n = omega arith in ap (λ z. take z xs) z
+      go (inr q) = take_all m xs (omega arith) ∙ sym (take_all n xs (omega arith))

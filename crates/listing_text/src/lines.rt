@@ -73,10 +73,8 @@ fn put_numbers(text: &mut [u8], at: u32, m: [f64; 8]) -> u32
     ensures most { result ≤ at + 8 * double_room }
 {
     let mut o = at;
-    let mut k = 0;
-    while k < 8 {
-        o = put_double(text, o, m[k], SPACE);
-        k += 1;
+    for x in &m {
+        o = put_double(text, o, *x, SPACE);
     }
     o
 }
@@ -103,16 +101,9 @@ fn put_finders(text: &mut [u8], at: u32, t: Finders) -> u32
     ensures text { Wrote (flat_map finder_line (held_in t)) at text.old result text.new }
     ensures most { result ≤ at + finder_room * max_finders }
 {
-    let count = t.count;
     let mut o = at;
-    let mut i = 0;
-    while i < MAX_FINDERS {
-        if count <= i {
-            return o;
-        }
-        let f = t.table[i];
-        o = put_finder(text, o, f);
-        i += 1;
+    for f in &t.table[..t.count.min(MAX_FINDERS)] {
+        o = put_finder(text, o, *f);
     }
     o
 }
@@ -123,16 +114,9 @@ fn put_detections(text: &mut [u8], at: u32, t: Detections) -> u32
     ensures text { Wrote (flat_map detection_line (detections_in t)) at text.old result text.new }
     ensures most { result ≤ at + detection_room * 3 }
 {
-    let count = t.count;
     let mut o = at;
-    let mut i = 0;
-    while i < 3 {
-        if count <= i {
-            return o;
-        }
-        let d = t.at[i];
-        o = put_detection(text, o, d);
-        i += 1;
+    for d in &t.at[..t.count.min(3)] {
+        o = put_detection(text, o, *d);
     }
     o
 }

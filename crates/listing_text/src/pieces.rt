@@ -11,13 +11,12 @@ pub fn put_field(text: &mut [u8], at: u32, field: &[u8], end: u8) -> u32
     requires { (at < 2 ^ 31) × (length field.now ≤ 20) }
     ensures { Wrote (field.now ++ (end ∷ [])) at text.old result text.new }
 {
-    let mut i = 0;
-    while i < field.len() {
-        little_endian::put::<u8>(text, at + i as u32, field[i]);
-        i += 1;
+    for (i, b) in field.iter().enumerate() {
+        little_endian::put::<u8>(text, at + i as u32, *b);
     }
-    little_endian::put::<u8>(text, at + i as u32, end);
-    at + i as u32 + 1
+    let last = at + field.len() as u32;
+    little_endian::put::<u8>(text, last, end);
+    last + 1
 }
 
 pub fn put_decimal(text: &mut [u8], at: u32, n: u64, end: u8) -> u32

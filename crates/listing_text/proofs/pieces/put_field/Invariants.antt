@@ -1,12 +1,8 @@
 -- `listing_text::pieces::put_field` meets its contract. Assumes nothing.
 use mathlib.Core.Path.{◌≡◌}
-use Prim.Native.Nat.{◌-◌, ◌≤◌}
-use lib.ListN.{length, take}
+use lib.ListN.{take}
 use Rattle.little_endian.specs.Bytes.{put}
 use Rattle.listing_text.proofs.pieces.put_field.Given as goal
 
 abbrev pub invariant-loop-i : goal.invariant-loop-i
-invariant-loop-i l = (l.i ≤ length l.field) × (length l.text ≡ length l.initial.text) × (l.text ≡ put (take l.i l.field) l.at l.initial.text)
-
-abbrev pub decreases-loop-i : goal.decreases-loop-i
-decreases-loop-i l = length l.field - l.i
+invariant-loop-i l = l.text ≡ put (take l.i l.field) l.at l.initial.text
