@@ -3,40 +3,28 @@ use lcr_core::color::Srgb8;
 use lcr_core::version::Version;
 use record::values;
 
+// The refusal's number, 0 where there is none, and what is asked of a version.
 fn version(function: u8, p: &[u8], out: &mut [u8]) -> usize {
     match Version::new(little_endian::get::<u8>(p, 0)) {
-        Ok(v) => {
-            if function == 1 {
-                little_endian::put::<u8>(out, 1, v.get());
-                return 2;
-            }
-            if function == 2 {
-                little_endian::put::<u16>(out, 1, v.side());
-                return 3;
-            }
-            little_endian::put::<u32>(out, 1, (v.modules() % 4294967296) as u32);
-            5
-        }
-        Err(_) => {
-            little_endian::put::<u8>(out, 0, 7);
-            if function == 1 {
-                return 2;
-            }
-            if function == 2 {
-                return 3;
-            }
-            5
-        }
+        Ok(v) => match function {
+            1 => little_endian::put::<u8>(out, 1, v.get()),
+            2 => little_endian::put::<u16>(out, 1, v.side()),
+            _ => little_endian::put::<u32>(out, 1, (v.modules() % 4294967296) as u32),
+        },
+        Err(refusal) => little_endian::put::<u8>(out, 0, u8::from(refusal)),
+    }
+    match function {
+        1 => 2,
+        2 => 3,
+        _ => 5,
     }
 }
 
-fn from_side(p: &[u8], out: &mut [u8]) -> usize {
-    match Version::from_side(little_endian::get::<u16>(p, 0)) {
-        Some(v) => {
-            little_endian::put::<u8>(out, 0, 1);
-            little_endian::put::<u8>(out, 1, v.get());
-        }
-        None => {}
+// A flag, and the version.
+pub fn put_version(out: &mut [u8], version: Option<Version>) -> usize {
+    if let Some(v) = version {
+        little_endian::put::<u8>(out, 0, 1);
+        little_endian::put::<u8>(out, 1, v.get());
     }
     2
 }
@@ -59,7 +47,7 @@ fn put_colour(out: &mut [u8], c: Srgb8) -> usize {
 pub fn answer(function: u8, p: &[u8], out: &mut [u8]) -> usize {
     match function {
         1 | 2 | 3 => version(function, p, out),
-        4 => from_side(p, out),
+        4 => put_version(out, Version::from_side(little_endian::get::<u16>(p, 0))),
         5 => put_colour(out, colour(p)),
         6 => put_colour(out, Srgb8::from_hex(little_endian::get::<u32>(p, 0))),
         7 => {

@@ -48,18 +48,16 @@ fn write_list(p: &[u8], out: &mut [u8]) -> usize {
 }
 
 fn matches_finder(p: &[u8], out: &mut [u8]) -> usize {
-    match ratio::matches_finder(
+    let module = ratio::matches_finder(
         little_endian::get::<u16>(p, 0),
         little_endian::get::<u16>(p, 2),
         little_endian::get::<u16>(p, 4),
         little_endian::get::<u16>(p, 6),
         little_endian::get::<u16>(p, 8),
-    ) {
-        Some(module) => {
-            little_endian::put::<u8>(out, 0, 1);
-            values::put_float(out, 1, module);
-        }
-        None => {}
+    );
+    if let Some(module) = module {
+        little_endian::put::<u8>(out, 0, 1);
+        values::put_float(out, 1, module);
     }
     5
 }
@@ -87,12 +85,12 @@ fn limited_run(p: &[u8]) -> Run {
 fn run_end(p: &[u8], out: &mut [u8]) -> usize {
     let r = limited_run(p);
     little_endian::put::<u16>(out, 0, r.count);
-    let end = r.end;
-    match end {
-        End::Change => little_endian::put::<u8>(out, 2, 0),
-        End::Edge => little_endian::put::<u8>(out, 2, 1),
-        End::Limit => little_endian::put::<u8>(out, 2, 2),
-    }
+    let end = match r.end {
+        End::Change => 0,
+        End::Edge => 1,
+        End::Limit => 2,
+    };
+    little_endian::put::<u8>(out, 2, end);
     3
 }
 

@@ -1,4 +1,5 @@
 // Records 48 to 59: linear equations, transforms, and what three finders tell.
+use crate::core_calls::put_version;
 use lcr_core::version::Version;
 use record::values;
 use transform::{Point, Quad, Transform, Triangle};
@@ -106,22 +107,12 @@ fn order_finders(p: &[u8], out: &mut [u8]) -> usize {
     48
 }
 
-fn estimate_version(p: &[u8], out: &mut [u8]) -> usize {
-    match geometry::estimate_version(values::corners_at(p, 0)) {
-        Some(v) => {
-            little_endian::put::<u8>(out, 0, 1);
-            little_endian::put::<u8>(out, 1, v.get());
-        }
-        None => {}
-    }
-    2
-}
-
-fn marker_at(p: &[u8], at: u16) -> Option<Point> {
+// A flag, and where the marker is.
+fn marker_at(p: &[u8], at: u8) -> Option<Point> {
     if little_endian::get::<u8>(p, at as u32) == 0 {
         return None;
     }
-    Some(values::point_at(p, at % 32768 + 1))
+    Some(values::point_at(p, at as u16 + 1))
 }
 
 fn build_transform(p: &[u8], out: &mut [u8]) -> usize {
@@ -153,7 +144,7 @@ pub fn answer(function: u8, p: &[u8], out: &mut [u8]) -> usize {
         54 => local_pitch(p, out),
         55 => pitch_range(p, out),
         56 => order_finders(p, out),
-        57 => estimate_version(p, out),
+        57 => put_version(out, geometry::estimate_version(values::corners_at(p, 0))),
         58 => build_transform(p, out),
         59 => with_radial(p, out),
         _ => 0,

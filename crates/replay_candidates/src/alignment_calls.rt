@@ -6,12 +6,9 @@ use transform::Point;
 
 // A flag, and where the marker is.
 fn put_marker(out: &mut [u8], at: u8, m: Option<Point>) {
-    match m {
-        Some(q) => {
-            little_endian::put::<u8>(out, at as u32, 1);
-            values::put_point(out, at as u16 + 1, q);
-        }
-        None => {}
+    if let Some(q) = m {
+        little_endian::put::<u8>(out, at as u32, 1);
+        values::put_point(out, at as u16 + 1, q);
     }
 }
 

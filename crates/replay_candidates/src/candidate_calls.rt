@@ -16,13 +16,9 @@ fn lend(bits: &[u8], width: u32, height: u32, list: [Finder; 512], n: usize) -> 
 
 // The finders that a record's list can have; what follows the list is read as finders too, and not lent.
 fn list_at(p: &[u8]) -> [Finder; 512] {
-    let zero = Finder::zero();
-    let mut list = [zero; 512];
-    let mut i = 0;
-    while i < 512 {
-        let f = values::finder_at(p, 12 + 16 * i as u16);
-        list[i] = f;
-        i += 1;
+    let mut list = [Finder::zero(); 512];
+    for (i, f) in list.iter_mut().enumerate() {
+        *f = values::finder_at(p, 12 + 16 * i as u16);
     }
     list
 }

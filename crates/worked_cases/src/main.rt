@@ -52,14 +52,11 @@ fn print_side(apart: f32, side: u64) {
         tr: finder(apart, 0.0),
         bl: finder(0.0, apart),
     };
-    match geometry::estimate_version(c) {
-        Some(v) => {
-            io::write_all(1, b": version ");
-            io::print_decimal(1, v.get() as u64);
-        }
-        None => {
-            io::write_all(1, b": none");
-        }
+    if let Some(v) = geometry::estimate_version(c) {
+        io::write_all(1, b": version ");
+        io::print_decimal(1, v.get() as u64);
+    } else {
+        io::write_all(1, b": none");
     }
     io::write_all(1, b"\n");
 }
