@@ -1,6 +1,6 @@
 -- What is refused of an input, what is known where nothing is, and that the stages then refuse nothing. Assumes nothing.
 use mathlib.Core.Path.{◌≡◌, sym, ◌∙◌}
-use mathlib.Core.Bool.{Bool, true, false}
+use mathlib.Core.Bool.{false}
 use mathlib.Core.List.{List, [], ◌∷◌}
 use Prim.Native.Nat.{ℕ, ◌+◌, ◌-◌, ◌*◌, ◌≤◌, ◌<◌}
 use native.Mathlib.Omega.{arith}
@@ -8,58 +8,51 @@ use lib.Dec.{ltb}
 use lib.ListN.{length, drop, length-drop}
 use borrow.Author.Tests.{lt-ltb, le-ltb, ltb-false}
 use Rattle.lists.proofs.Numbers.{mul_bound, row_within}
-use Rattle.lcr_core.specs.Outcome.{zero_side, large_side}
+use Rattle.lcr_core.specs.declared.Refusal.{Refusal}
+use Rattle.lcr_core.specs.Outcome.{refusal_number, first_of, zero_side, large_side, sides_refusal}
 use Rattle.lcr_core.specs.Passed.{Sides}
-use Rattle.lcr_core.proofs.Checks.{first_passes, sides_pass}
-use Rattle.little_endian.specs.Bytes.{read_le}
+use Rattle.lcr_core.proofs.Checks.{first_passes, refused_first, sides_pass, sides_allowed}
 use Rattle.binary.specs.Binary.{bytes_of}
 use Rattle.blocks.specs.Blocks.{blocks_on, blocks_in, under}
 use Rattle.image.specs.Gray.{unknown_format, short_picture}
 use Rattle.stages.specs.Stages.{short_room, stages_refusal}
 use Rattle.listing_text.specs.Inner.{Passed}
-use Rattle.listing_text.specs.Listing.{max_pixels, width_of, height_of, picture_of, listing_refusal}
+use Rattle.listing_text.specs.Listing.{max_pixels, width_of, height_of, picture_of, listing_checks, listing_refusal}
 
 -- ---- each refusal
 pub refuses_few : (l : List ℕ) → length l < 4 → 4 ≡ listing_refusal l
 unfolding listing_refusal
 refuses_few l p = rw (lt-ltb (length l) 4 p)
 
-module _ (l : List ℕ) (w h : ℕ) (e : w ≡ read_le 2 l 0) (f : h ≡ read_le 2 l 2) (long : 4 ≤ length l) (z : Bool) (zs : z ≡ zero_side w h) where
-  pub refuses_zero : z ≡ true → 1 ≡ listing_refusal l
-  unfolding listing_refusal
-  refuses_zero t = let q : zero_side w h ≡ true = sym zs ∙ t in rw (le-ltb (length l) 4 long, ← e, ← f, q)
+module _ (l : List ℕ) (w h : ℕ) (e : w ≡ width_of l) (f : h ≡ height_of l) (long : 4 ≤ length l) where
+  pub refuses_sides : (r : Refusal) → refusal_number r ≡ sides_refusal w h → refusal_number r ≡ listing_refusal l
+  unfolding listing_refusal sides_refusal
+  refuses_sides r q =
+      let later : refusal_number r ≡ first_of (drop 1 (listing_checks l)) = refused_first 2 (drop 1 (listing_checks l)) r (rw (← e, ← f) q) in
+      rw (le-ltb (length l) 4 long) later
 
-  module _ (zf : z ≡ false) (g : Bool) (gs : g ≡ large_side w h) where
-    pub refuses_large : g ≡ true → 2 ≡ listing_refusal l
+  module _ (s : 0 ≡ sides_refusal w h) (n : ℕ) (ns : n ≡ w * h) where
+    zero : zero_side w h ≡ false
+    zero = sym (sides_allowed w h s).0
+
+    large : large_side w h ≡ false
+    large = sym (sides_allowed w h s).1
+
+    pub refuses_many : max_pixels < n → 5 ≡ listing_refusal l
     unfolding listing_refusal
-    refuses_large t =
-        let p : zero_side w h ≡ false = sym zs ∙ zf in
-        let q : large_side w h ≡ true = sym gs ∙ t in
-        rw (le-ltb (length l) 4 long, ← e, ← f, p, q)
+    refuses_many t = rw (le-ltb (length l) 4 long, ← e, ← f, zero, large, ← ns, lt-ltb max_pixels n t)
 
-    module _ (gf : g ≡ false) (n : ℕ) (ns : n ≡ w * h) where
-      pub refuses_many : max_pixels < n → 5 ≡ listing_refusal l
-      unfolding listing_refusal
-      refuses_many t =
-          let p : zero_side w h ≡ false = sym zs ∙ zf in
-          let q : large_side w h ≡ false = sym gs ∙ gf in
-          rw (le-ltb (length l) 4 long, ← e, ← f, p, q, ← ns, lt-ltb max_pixels n t)
+    pub refuses_short : n ≤ max_pixels → length l - 4 < n → 4 ≡ listing_refusal l
+    unfolding listing_refusal
+    refuses_short m t =
+        let u : length (drop 4 l) < n = simp length-drop (omega arith) in
+        rw (le-ltb (length l) 4 long, ← e, ← f, zero, large, ← ns, le-ltb max_pixels n m, lt-ltb (length (drop 4 l)) n u)
 
-      pub refuses_short : n ≤ max_pixels → length l - 4 < n → 4 ≡ listing_refusal l
-      unfolding listing_refusal
-      refuses_short m t =
-          let p : zero_side w h ≡ false = sym zs ∙ zf in
-          let q : large_side w h ≡ false = sym gs ∙ gf in
-          let u : length (drop 4 l) < n = simp length-drop (omega arith) in
-          rw (le-ltb (length l) 4 long, ← e, ← f, p, q, ← ns, le-ltb max_pixels n m, lt-ltb (length (drop 4 l)) n u)
-
-      pub refuses_none : n ≤ max_pixels → n ≤ length l - 4 → 0 ≡ listing_refusal l
-      unfolding listing_refusal
-      refuses_none m t =
-          let p : zero_side w h ≡ false = sym zs ∙ zf in
-          let q : large_side w h ≡ false = sym gs ∙ gf in
-          let u : n ≤ length (drop 4 l) = simp length-drop (omega arith) in
-          rw (le-ltb (length l) 4 long, ← e, ← f, p, q, ← ns, le-ltb max_pixels n m, le-ltb (length (drop 4 l)) n u)
+    pub refuses_none : n ≤ max_pixels → n ≤ length l - 4 → 0 ≡ listing_refusal l
+    unfolding listing_refusal
+    refuses_none m t =
+        let u : n ≤ length (drop 4 l) = simp length-drop (omega arith) in
+        rw (le-ltb (length l) 4 long, ← e, ← f, zero, large, ← ns, le-ltb max_pixels n m, le-ltb (length (drop 4 l)) n u)
 
 -- ---- nothing is refused
 pub passed : (l : List ℕ) → listing_refusal l ≡ 0 → (4 ≤ length l) × Passed (width_of l) (height_of l) (picture_of l)

@@ -96,13 +96,14 @@ fn put_listing(input: &[u8], text: &mut [u8]) -> u32
     ensures text { Wrote (listing_of input.now) 0 text.old result text.new }
     ensures most { result ≤ listing_room }
 {
-    let refusal = number(check_input(input));
-    if refusal != 0 {
-        return put_refusal(text, refusal);
+    match check_input(input) {
+        Err(refusal) => put_refusal(text, u8::from(refusal)),
+        Ok(()) => {
+            let width = little_endian::get::<u16>(input, 0) as u32;
+            let height = little_endian::get::<u16>(input, 2) as u32;
+            put_picture(&input[4..], width, height, text)
+        }
     }
-    let width = little_endian::get::<u16>(input, 0) as u32;
-    let height = little_endian::get::<u16>(input, 2) as u32;
-    put_picture(&input[4..], width, height, text)
 }
 
 // Writes the listing of an input into text, and answers how many characters it has; writes nothing and answers 0 where text has less than ROOM for it.

@@ -1,6 +1,6 @@
 // Fields of a line, each with the character that follows it. A character beyond the slice is not written.
 ghost use Rattle.std.specs.Prelude.{[], ◌∷◌, ◌++◌, ◌+◌, ◌^◌, ◌≤◌, ◌<◌, length};
-ghost use Rattle.listing_text.specs.Text.{decimal_text, single_text, double_text};
+ghost use Rattle.listing_text.specs.Text.{hex_text, decimal_text, single_text, double_text};
 ghost use Rattle.listing_text.specs.Inner.{Wrote};
 ghost use Rattle.listing_text.specs.Listing.{decimal_room, single_room, double_room};
 
@@ -29,14 +29,26 @@ pub fn put_decimal(text: &mut [u8], at: u32, n: u64, end: u8) -> u32
     put_field(text, at, &digits[..k], end)
 }
 
+// The lowest digits of a number, which they hold whole.
+fn put_hex(text: &mut [u8], at: u32, n: u64, digits: usize, end: u8) -> u32
+    requires at { at < 2 ^ 31 }
+    requires some { 0 < digits }
+    requires few { digits ≤ 16 }
+    requires whole { n < 16 ^ digits }
+    ensures text { Wrote (hex_text digits n ++ (end ∷ [])) at text.old result text.new }
+    ensures most { result ≤ at + (digits + 1) }
+{
+    let mut room = [0u8; 16];
+    let k = io::hex(n, digits, &mut room);
+    put_field(text, at, &room[..k], end)
+}
+
 pub fn put_single(text: &mut [u8], at: u32, x: f32, end: u8) -> u32
     requires { at < 2 ^ 31 }
     ensures text { Wrote (single_text x ++ (end ∷ [])) at text.old result text.new }
     ensures most { result ≤ at + single_room }
 {
-    let mut digits = [0u8; 16];
-    let k = io::hex(x.bits() as u64, 8, &mut digits);
-    put_field(text, at, &digits[..k], end)
+    put_hex(text, at, x.bits() as u64, 8, end)
 }
 
 pub fn put_double(text: &mut [u8], at: u32, x: f64, end: u8) -> u32
@@ -44,7 +56,5 @@ pub fn put_double(text: &mut [u8], at: u32, x: f64, end: u8) -> u32
     ensures text { Wrote (double_text x ++ (end ∷ [])) at text.old result text.new }
     ensures most { result ≤ at + double_room }
 {
-    let mut digits = [0u8; 16];
-    let k = io::hex(x.bits(), 16, &mut digits);
-    put_field(text, at, &digits[..k], end)
+    put_hex(text, at, x.bits(), 16, end)
 }
