@@ -39,7 +39,10 @@ fit c =
     shifted_lt c.args.a c.sig-m.result c.expo.result (z_of c.before) c.sig-m.ensures c.expo.ensures l.0 l.1 l.2 l.3 (short c.before)
 
 exact : (c : After-isqrt-r) → IsRoot (c.sig-m.result * 2 ^ zs c.before) c.isqrt-r.result
-exact c = rw (mod-eq_of_lt (lt_of_lt_of_le (fit c.before) (lit≤ tt))) at c.isqrt-r.ensures
+exact c =
+    let n = c.sig-m.result * 2 ^ zs c.before in
+    let e : n % 2 ^ 64 ≡ n = mod-eq_of_lt (lt_of_lt_of_le (fit c.before) (lit≤ tt)) in
+    (rw e at c.isqrt-r.ensures.square_le, rw e at c.isqrt-r.ensures.next_square_gt)
 
 root_lt : (c : After-isqrt-r) → c.isqrt-r.result < 2 ^ 25
 root_lt c = sq_lt c.isqrt-r.result (2 ^ 25) (c.sig-m.result * 2 ^ zs c.before) (exact c).0 (fit c.before)
@@ -58,9 +61,6 @@ overflow_add-z-2 c = omega (arith, (lead c.before).1)
 
 pub overflow_shl-m : goal.overflow_shl-m
 overflow_shl-m c = omega (arith, (lead c.before).1)
-
-pub isqrt-r-requires : goal.isqrt-r-requires
-isqrt-r-requires c = rw (mod-eq_of_lt (lt_of_lt_of_le (fit c) (lit≤ tt))) (fit c)
 
 pub overflow_add-result-2 : goal.overflow_add-result-2
 overflow_add-result-2 c = let h = root_lt c in omega arith
