@@ -9,7 +9,6 @@ use lib.Ieee.Nearest.{closest}
 use Rattle.float.specs.Fields.{val, pack, round_mag}
 use Rattle.float.proofs.Magnitudes.{sig-lt}
 use Rattle.float.proofs.Narrowing.{narrow_parts, nearest-none}
-use borrow.Author.Rules.{rules}
 use Rattle.float.proofs.nearest.narrow_mag.Goals.{After-expo-e}
 use Rattle.float.proofs.nearest.narrow_mag.Goals as goal
 
@@ -31,9 +30,6 @@ returns-then-e-lt862 c =
     let k : e - 896 ≡ 0 = omega arith in
     sym ((parts s (suc (924 - e)) (omega arith)).1 ∙ ap (λ (q : ℕ). pack binary32 q (e - 896)) (nearest-none m (924 - e) (lt_of_lt_of_le (short s) (pow_mono l))) ∙ ap (pack binary32 0) k)
 
-pub nearest_shift-requires : goal.nearest_shift-requires
-nearest_shift-requires c = record { m_bound = short (goal.at.nearest_shift-requires c).After-expo-e; d_nonzero = search rules; d_bound = search rules }
-
 pub overflow_cast-result : goal.overflow_cast-result
 overflow_cast-result c =
     let s = (goal.at.overflow_cast-result c).After-expo-e in
@@ -45,14 +41,6 @@ returns-then-e-lt896 c =
     let s = (goal.at.returns-then-e-lt896 c).After-expo-e in
     let e = s.expo-e.result in
     omega (arith, parts s (925 - e) (omega arith), c.nearest_shift.ensures)
-
-pub nearest_shift-requires-2 : goal.nearest_shift-requires-2
-nearest_shift-requires-2 c = record { m_bound = short (goal.at.nearest_shift-requires-2 c).After-expo-e; d_nonzero = search rules; d_bound = search rules }
-
-pub overflow_add-n : goal.overflow_add-n
-overflow_add-n c =
-    let s = (goal.at.overflow_add-n c).After-expo-e in
-    omega (arith, (parts s 29 (omega arith)).0, c.nearest_shift-2.ensures, s.expo-e.ensures)
 
 pub returns-then-n-lt2139095040 : goal.returns-then-n-lt2139095040
 returns-then-n-lt2139095040 c =

@@ -1,8 +1,8 @@
 -- `float::nearest::nearest_shift` meets its contract. Assumes nothing.
 use mathlib.Core.Path.{ap, ◌∙◌}
-use Prim.Native.Nat.{ℕ, ◌+◌, ◌-◌, ◌/◌, ◌%◌, ◌^◌, ◌≤◌, ◌<◌}
+use Prim.Native.Nat.{ℕ, ◌+◌, ◌-◌, ◌/◌, ◌%◌, ◌^◌, ◌<◌}
 use native.Mathlib.Omega.{arith}
-use lib.Pow.{pow_pos, pow_mono}
+use lib.Pow.{pow_pos}
 use Rattle.float.proofs.Numbers.{half_pow, one_shl}
 use Rattle.float.proofs.Narrowing.{nearest_by_half}
 use Rattle.float.proofs.nearest.nearest_shift.Goals.{Start}
@@ -10,14 +10,6 @@ use Rattle.float.proofs.nearest.nearest_shift.Goals as goal
 
 below : (c : Start) → c.args.d - 1 < 64
 below c = omega arith
-
-pub overflow_add-result-2 : goal.overflow_add-result-2
-overflow_add-result-2 c =
-    let l : c.args.d - 1 ≤ 62 = omega arith in
-    rw (one_shl 64 _ (below c)) (omega (arith, pow_mono l))
-
-pub overflow_sub-result : goal.overflow_sub-result
-overflow_sub-result c = rw (one_shl 64 _ (below c)) (omega (arith, pow_pos (c.args.d - 1)))
 
 pub returns : goal.returns
 returns c =

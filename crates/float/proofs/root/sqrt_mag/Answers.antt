@@ -8,7 +8,7 @@ use lib.Pow.{pow_mono}
 use lib.Count.{count_leading_zeros, leading_top}
 use lib.Ieee.{binary32}
 use Rattle.float.proofs.Magnitudes.{sig-lt, sig_pos}
-use Rattle.float.proofs.Squares.{IsRoot, sq_lt}
+use Rattle.float.proofs.Squares.{IsRoot}
 use Rattle.float.proofs.Roots.{shifted_lt, sqrt_mag_is}
 use Rattle.float.proofs.root.sqrt_mag.Goals.{After-sig-m, After-expo, After-isqrt-r}
 use Rattle.float.proofs.root.sqrt_mag.Goals as goal
@@ -44,32 +44,8 @@ exact c =
     let e : n % 2 ^ 64 ≡ n = mod-eq_of_lt (lt_of_lt_of_le (fit c.before) (lit≤ tt)) in
     (rw e at c.isqrt-r.ensures.square_le, rw e at c.isqrt-r.ensures.next_square_gt)
 
-root_lt : (c : After-isqrt-r) → c.isqrt-r.result < 2 ^ 25
-root_lt c = sq_lt c.isqrt-r.result (2 ^ 25) (c.sig-m.result * 2 ^ zs c.before) (exact c).0 (fit c.before)
-
 pub overflow_sub-z : goal.overflow_sub-z
 overflow_sub-z c = (lead c).4
-
-pub overflow_sub-t : goal.overflow_sub-t
-overflow_sub-t c = omega (arith, (lead c.before).1)
-
-pub overflow_add-z : goal.overflow_add-z
-overflow_add-z c = omega (arith, (lead c.before).1)
-
-pub overflow_add-z-2 : goal.overflow_add-z-2
-overflow_add-z-2 c = omega (arith, (lead c.before).1)
-
-pub overflow_shl-m : goal.overflow_shl-m
-overflow_shl-m c = omega (arith, (lead c.before).1)
-
-pub overflow_add-result-2 : goal.overflow_add-result-2
-overflow_add-result-2 c = let h = root_lt c in omega arith
-
-pub overflow_cast-result : goal.overflow_cast-result
-overflow_cast-result c = let h = root_lt c in omega arith
-
-pub overflow_add-result-3 : goal.overflow_add-result-3
-overflow_add-result-3 c = let h = root_lt c in let e = c.expo.ensures in omega arith
 
 pub returns : goal.returns
 returns c =
