@@ -1,7 +1,8 @@
 -- The loops over a window, as folds, eight pixels at once, and what is known where they run. For contracts of inner functions, and for proofs.
-use Rattle.std.specs.Prelude.{ℕ, ◌+◌, ◌*◌, ◌/◌, ◌%◌, ◌^◌, ◌≤◌, ◌≡◌, cond, Option, None, Some, List, [], ◌∷◌, length, eqb, leb, ltb}
+use Rattle.std.specs.Prelude.{ℕ, ◌+◌, ◌*◌, ◌/◌, ◌%◌, ◌^◌, ◌≤◌, ◌≡◌, Bool, cond, Option, None, Some, List, [], ◌∷◌, length, eqb, leb, ltb}
 use Rattle.lists.specs.Lists.{range, folded, those}
 use Rattle.binary.specs.Binary.{bytes_of}
+use Rattle.binary.specs.Writing.{Written}
 use Rattle.blocks.specs.declared.rect.Rect.{Rect}
 use Rattle.blocks.specs.Blocks.{sum, blocks_refusal}
 use Rattle.binarize.specs.declared.split.Split.{Split}
@@ -62,6 +63,10 @@ pub record InGrid (len w : ℕ) (r : Rect) : Type 0 where
   pub cols : r.right ≤ w
   pub all : r.bottom * w ≤ len
   pub few : r.bottom * w ≤ 262144
+
+-- the pixels from number a on below b are put, where `old` bytes and `rest` bits stood: what results is written in order of each picture p that agrees
+abbrev pub Puts : ℕ → ℕ → List ℕ → ℕ → List ℕ → ℕ → ((ℕ → Bool) → Type 0) → Type 0
+Puts a b old rest new left Agrees = (p : ℕ → Bool) (first : List ℕ) → length first ≡ length old → Written p a first old rest → Agrees p → Written p b first new left
 
 -- eight pixels b after n, of which the last n mod 8 stand in acc: the byte that is complete, and the bits that are left
 abbrev pub byte_of_eight : ℕ → ℕ → ℕ → ℕ

@@ -33,7 +33,7 @@ pub fn check_binarize(
     ensures { number_of result ≡ binarize_refusal len width height room (means ∷ least ∷ greatest ∷ edges ∷ nears ∷ []) }
 {
     check_blocks(len, width, height, means, least, greatest, edges, nears)?;
-    if room < (width as usize * height as usize + 7) / 8 {
+    if room < (width as usize * height as usize).div_ceil(8) {
         return Err(Refusal::ShortOutput);
     }
     Ok(())

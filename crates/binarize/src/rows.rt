@@ -1,12 +1,11 @@
 // The bits of a picture whose blocks' means and marks are known, written in pixel order, each byte once.
-ghost use Rattle.std.specs.Prelude.{◌≡◌, Bool, List, ℕ, ◌+◌, ◌*◌, ◌/◌, ◌^◌, ◌≤◌, ◌<◌, length, set, ltb};
+ghost use Rattle.std.specs.Prelude.{◌≡◌, ℕ, ◌+◌, ◌*◌, ◌/◌, ◌^◌, ◌≤◌, ◌<◌, length, set, ltb};
 ghost use Rattle.lists.specs.Lists.{filled};
 ghost use Rattle.binary.specs.Binary.{bit, word, byte_of, bytes_of};
-ghost use Rattle.binary.specs.Writing.{Written};
 ghost use Rattle.blocks.specs.Blocks.{at, blocks_in};
 ghost use Rattle.binarize.specs.Levels.{window_level};
 ghost use Rattle.binarize.specs.Binarize.{dark_by};
-ghost use Rattle.binarize.specs.Splits.{rest_of_eight, byte_of_eight};
+ghost use Rattle.binarize.specs.Splits.{Puts, rest_of_eight, byte_of_eight};
 
 use super::blank::{flag_columns, level_by};
 use super::grid::Grid;
@@ -66,9 +65,8 @@ fn put_eight(bits: &mut [u8], n: usize, acc: u8, b: u8) -> u8
 // Puts the pixels of a row of w pixels that fill whole blocks; the levels of the row's blocks stand in levels.
 fn put_blocks(gray: &[u8], from: usize, w: usize, levels: &[u8], carried: u8, bits: &mut [u8]) -> u8
     requires { (from + w ≤ length gray.now) × (w ≤ 8 * length levels.now) × (from + w ≤ 8 * length bits.old) }
-    ensures { (p : ℕ → Bool) (old : List ℕ) → length old ≡ length bits.old → Written p from old bits.old carried
-        → ((x : ℕ) → x < w → p (from + x) ≡ ltb (at gray.now (from + x)) (at levels.now (x / 8)))
-        → Written p (from + w / 8 * 8) old bits.new result }
+    ensures { Puts from (from + w / 8 * 8) bits.old carried bits.new result
+        (λ p. (x : ℕ) → x < w → p (from + x) ≡ ltb (at gray.now (from + x)) (at levels.now (x / 8))) }
 {
     let mut acc = carried;
     for j in 0..w / 8 {
@@ -89,9 +87,8 @@ fn put_pixels(
     bits: &mut [u8],
 ) -> u8
     requires { (a ≤ w) × (from + w ≤ length gray.now) × (w ≤ 8 * length levels.now) × (from + w ≤ 8 * length bits.old) }
-    ensures { (p : ℕ → Bool) (old : List ℕ) → length old ≡ length bits.old → Written p (from + a) old bits.old carried
-        → ((x : ℕ) → x < w → p (from + x) ≡ ltb (at gray.now (from + x)) (at levels.now (x / 8)))
-        → Written p (from + w) old bits.new result }
+    ensures { Puts (from + a) (from + w) bits.old carried bits.new result
+        (λ p. (x : ℕ) → x < w → p (from + x) ≡ ltb (at gray.now (from + x)) (at levels.now (x / 8))) }
 {
     let mut acc = carried;
     for x in a..w {
@@ -103,8 +100,7 @@ fn put_pixels(
 // Puts the unused bits, which are light.
 fn pad(from: usize, to: usize, carried: u8, bits: &mut [u8]) -> u8
     requires { (from ≤ to) × (to ≤ 8 * length bits.old) × (to < 2 ^ 32) }
-    ensures { (p : ℕ → Bool) (old : List ℕ) → length old ≡ length bits.old → Written p from old bits.old carried
-        → ((k : ℕ) → from ≤ k → k < to → 0 ≡ bit (p k)) → Written p to old bits.new result }
+    ensures { Puts from to bits.old carried bits.new result (λ p. (k : ℕ) → from ≤ k → k < to → 0 ≡ bit (p k)) }
 {
     let mut acc = carried;
     for n in from..to {
@@ -117,9 +113,8 @@ fn pad(from: usize, to: usize, carried: u8, bits: &mut [u8]) -> u8
 fn put_rows(picture: Picture, y: usize, z: usize, levels: &[u8], carried: u8, bits: &mut [u8]) -> u8
     requires { (y ≤ z) × (z ≤ picture.height) × (picture.width ≤ 8 * length levels.now) × (z * picture.width ≤ 8 * length bits.old) }
     ensures { let w = picture.entry.width in let gray = picture.entry.gray.now in
-        (p : ℕ → Bool) (old : List ℕ) → length old ≡ length bits.old → Written p (y * w) old bits.old carried
-        → ((i x : ℕ) → y ≤ i → i < z → x < w → p (i * w + x) ≡ ltb (at gray (i * w + x)) (at levels.now (x / 8)))
-        → Written p (z * w) old bits.new result }
+        Puts (y * w) (z * w) bits.old carried bits.new result
+        (λ p. (i x : ℕ) → y ≤ i → i < z → x < w → p (i * w + x) ≡ ltb (at gray (i * w + x)) (at levels.now (x / 8))) }
 {
     let w = picture.width;
     let mut acc = carried;

@@ -1,11 +1,12 @@
 -- `binarize::check_binarize` meets its contract. Assumes nothing.
-use Prim.Native.Nat.{◌*◌, ◌≤◌}
+use Prim.Native.Nat.{◌*◌, ◌≤◌, ◌<◌}
 use mathlib.Core.Path.{◌≡◌, sym, ◌∙◌}
 use mathlib.Core.List.{[], ◌∷◌}
 use native.Mathlib.Omega.{arith}
 use borrow.Author.Tests.{lt-ltb, le-ltb}
 use Rattle.lists.proofs.Numbers.{mul_bound}
 use Rattle.lcr_core.proofs.Checks.{same_number, some_number}
+use Rattle.binary.specs.Binary.{bytes_of}
 use Rattle.blocks.specs.Blocks.{blocks_refusal}
 use Rattle.blocks.proofs.Refusals as blocks
 use Rattle.binarize.proofs.Refusals.{values_refused, room_decides}
@@ -28,11 +29,14 @@ returns-in_err-check_blocks c =
 pub overflow_mul-width : goal.overflow_mul-width
 overflow_mul-width c = omega (arith, area c)
 
-pub overflow_add-width : goal.overflow_add-width
-overflow_add-width c = omega (arith, area c)
-
-pub returns-then-room-width : goal.returns-then-room-width
-returns-then-room-width c = simp (lt-ltb _ _ c.if-room-width.true) at (room_decides _ _ _ c.args.room _ (passed (goal.at.returns-then-room-width c).In_ok-check_blocks))
+pub returns-then-room-div_ceil : goal.returns-then-room-div_ceil
+returns-then-room-div_ceil c =
+    let a = c.args in
+    let short : a.room < bytes_of (a.width * a.height) = omega (arith, c.div_ceil.ensures) in
+    simp (lt-ltb _ _ short) at (room_decides _ _ _ a.room _ (passed (goal.at.returns-then-room-div_ceil c).In_ok-check_blocks))
 
 pub returns : goal.returns
-returns c = simp (le-ltb _ _ c.if-room-width.false) at (room_decides _ _ _ c.args.room _ (passed (goal.at.returns c).In_ok-check_blocks))
+returns c =
+    let a = c.args in
+    let room : bytes_of (a.width * a.height) ≤ a.room = omega (arith, c.div_ceil.ensures) in
+    simp (le-ltb _ _ room) at (room_decides _ _ _ a.room _ (passed (goal.at.returns c).In_ok-check_blocks))
