@@ -1,5 +1,4 @@
 pub mod Windows
 pub mod ColumnLaws
-pub mod Answers
 pub mod Walks
 pub mod RowLaws

@@ -1,19 +1,20 @@
 -- The search for the alignment marker along rows. Document 01: "`find_alignment` searches the rows as 000 does", refusals "1, 2, 4", and its known difference: "sums are taken
 -- without overflow, and rows clipped to the picture; a negative px + radius still searches to width − 1". All steps are f32, in the order of 000. Definitions only.
-use Rattle.std.specs.Prelude.{ℕ, suc, ◌+◌, ◌-◌, min, Bool, true, false, not, ◌&&◌, cond, List, ltb, ℤ, pos, negsuc, length, Float, Option, Some, None}
+use Rattle.std.specs.Prelude.{ℕ, suc, ◌+◌, ◌-◌, min, Bool, true, false, not, ◌&&◌, cond, List, ltb, ℤ, pos, negsuc, length, Float, Option, Some, None, Result}
 use Rattle.std.specs.Float.Ieee.{lt, le, to_unsigned, to_signed}
 use Rattle.lists.specs.Lists.{range, folded}
 use Rattle.float.specs.Floats.{abs_of, max_of}
 use Rattle.float.specs.Steps.{plus32, minus32, times32, over32, whole32}
 use Rattle.float.specs.Constants.{f0_7, f2, f3, f5, f6}
-use Rattle.lcr_core.specs.Outcome.{unless}
+use Rattle.lcr_core.specs.Outcome.{Check}
+use Rattle.lcr_core.specs.Answer.{checked}
+use Rattle.lcr_core.specs.declared.Refusal.{Refusal}
 use Rattle.binary.specs.Binary.{dark_at}
 use Rattle.binary.specs.Line.{row, column, run, run_back, run_before, run_after}
-use Rattle.binary.specs.Refusal.{bits_refusal}
+use Rattle.binary.specs.Refusal.{bits_checks}
 use Rattle.transform.specs.Apply.{distance2_of}
 use Rattle.transform.specs.declared.Point.{Point}
 use Rattle.geometry.specs.Order.{point}
-use Rattle.rows.specs.declared.Located.{Located}
 use Rattle.rows.specs.declared.window.Window.{Window}
 use Rattle.rows.specs.declared.search.Runs.{Runs}
 
@@ -128,10 +129,10 @@ module _ (bits : List ℕ) (w h first end : ℕ) (p : Point) (m : Float) where
 unfoldable pub nearest_of : List ℕ → ℕ → ℕ → Window → Point → Float → Option Point
 nearest_of bits w h v p m = folded (row_nearest bits w h v.first v.end p m) None (range v.top v.bottom)
 
--- a marker, unless a number other than 0 refuses
-abbrev pub answer : ℕ → Option Point → Located
-answer n m = record { refusal = n; marker = unless n None m }
+-- a marker or none, unless a check refuses
+abbrev pub answer : List Check → Option Point → Result (Option Point) Refusal
+answer cs m = checked cs m
 
 -- `find_alignment`
-unfoldable pub find_of : List ℕ → ℕ → ℕ → Point → Float → Located
-find_of bits w h p m = answer (bits_refusal (length bits) w h) (nearest_of bits w h (window_of p m w h) p m)
+unfoldable pub find_of : List ℕ → ℕ → ℕ → Point → Float → Result (Option Point) Refusal
+find_of bits w h p m = answer (bits_checks (length bits) w h) (nearest_of bits w h (window_of p m w h) p m)

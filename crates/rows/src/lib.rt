@@ -5,6 +5,7 @@ ghost use Rattle.std.specs.Prelude.{◌≡◌};
 ghost use Rattle.rows.specs.Rows.{find_of};
 
 use binary::refusal::check_bits;
+use lcr_core::Refusal;
 use search::Search;
 use transform::Point;
 use window::window_about;
@@ -12,30 +13,17 @@ use window::window_about;
 mod search;
 mod window;
 
-// The marker, or none; or a refusal, and then none.
-#[derive(Clone, Copy)]
-pub struct Located {
-    pub refusal: u8,
-    pub marker: Option<Point>,
-}
-
-// The marker by runs along rows, nearest to the predicted place.
+// The marker by runs along rows, nearest to the predicted place, or none.
 pub fn find_alignment(
     bits: &[u8],
     width: u32,
     height: u32,
     predicted: Point,
     module: f32,
-) -> Located
+) -> Result<Option<Point>, Refusal>
     ensures { result ≡ find_of bits.now width height predicted «module» }
 {
-    let refusal = lcr_core::number(check_bits(bits.len(), width, height));
-    if refusal != 0 {
-        return Located {
-            refusal,
-            marker: None,
-        };
-    }
+    check_bits(bits.len(), width, height)?;
     let search = Search {
         bits,
         width,
@@ -44,6 +32,5 @@ pub fn find_alignment(
         predicted,
         module,
     };
-    let marker = search.nearest_marker();
-    Located { refusal: 0, marker }
+    Ok(search.nearest_marker())
 }
