@@ -1,66 +1,93 @@
 -- Transforms with lens terms (document 02, N12): what `refine_alignment` does with them; and that at strength 0 the alignment functions answer what they
 -- answer without a lens, for any centre. Assumes nothing.
+use Rattle.std.specs.Prelude.{Option, Some, None, IfSome, unwrap_or, Result, Ok, Err, IfOk, IsErrAnd}
+use Rattle.std.specs.Option.{is_some}
+use Rattle.std.specs.Result.{result_unwrap_or}
 use Prim.Native.Nat.{ℕ, zero, suc, ◌*◌}
-use mathlib.Core.Path.{◌≡◌, refl, ap, fun_ext}
+use native.Mathlib.Omega.{arith}
+use mathlib.Core.Path.{◌≡◌, refl, sym, ap, fun_ext, ◌∙◌}
 use mathlib.Core.Bool.{Bool, true, false, cond}
-use mathlib.Core.List.{List}
-use Rattle.std.proofs.Common.{Option, Some, None, IfSome, unwrap_or}
+use mathlib.Core.List.{List, [], ◌∷◌}
 use lib.Dec.{ltb}
 use lib.ListN.{length}
 use lib.Ieee.{Float, eq}
 use Rattle.lists.specs.Lists.{folded}
 use Rattle.float.specs.Constants.{d0}
 use Rattle.float.specs.Steps.{plus32}
-use Rattle.lcr_core.specs.Outcome.{unless}
-use Rattle.lcr_core.proofs.Checks.{either, unless_either}
+use Rattle.lcr_core.specs.Outcome.{Check, refusal_number, number_of}
+use Rattle.lcr_core.specs.Answer.{checked}
+use Rattle.lcr_core.specs.declared.Refusal.{Refusal}
+use Rattle.lcr_core.proofs.Checks.{either}
+use Rattle.lcr_core.proofs.Answers.{number_checked, checked_passed, checked_holds}
 use Rattle.transform.specs.Apply.{applied}
-use Rattle.transform.specs.Fit.{plain, Plain, zero_transform}
+use Rattle.transform.specs.Fit.{plain, Plain}
 use Rattle.transform.specs.declared.Point.{Point}
 use Rattle.transform.specs.declared.Transform.{Transform}
 use Rattle.transform.proofs.Theorems.{same_places}
-use Rattle.geometry.specs.Build.{built_of}
+use Rattle.geometry.specs.Build.{built_fit}
 use Rattle.geometry.specs.declared.Corners.{Corners}
 use Rattle.geometry.proofs.Theorems.{built_plain}
 use Rattle.rows.specs.Rows.{answer, find_of}
-use Rattle.alignment.specs.Alignment.{alignment_refusal, match_of, searched_of, located_of, locate_of, is_found, rebuilt_of, refined, refine_of}
+use Rattle.alignment.specs.Alignment.{alignment_checks, alignment_refusal, match_of, searched_of, located_of, locate_of, rebuilt_of, refined, refine_of}
 use Rattle.alignment.specs.Template.{tapped, no_votes, taps, module_dark, centre_of, matched_of}
+use Rattle.alignment.specs.declared.Refined.{Refined}
 use Rattle.alignment.specs.declared.template.Votes.{Votes}
 use Rattle.alignment.proofs.Alike.{best_alike}
 
 -- ---- what `refine_alignment` does with lens terms; where it finds no marker, it keeps them (`refine_none`, Theorems.antt)
 module _ (bits : List ℕ) (w h : ℕ) (c : Corners) (v : ℕ) (t : Transform) (m : Float) where
+  abbrev checks : List Check
+  checks = alignment_checks (length bits) w h v
+
   -- where it rebuilds the transform, through the finders and the marker a, centre and strength are 0
-  pub refine_rebuilds : alignment_refusal (length bits) w h v ≡ 0 → (a : Option Point) → located_of bits w h t v m ≡ a → is_found a ≡ true → (b : Transform) → (built_of c a v).fit ≡ Some b
-      → refine_of bits w h c v t m ≡ record { refusal = 0; transform = plain b.m; marker = a }
-  unfolding refine_of rebuilt_of
-  refine_rebuilds e a l f b g = rw (e, l, f, g) (ap (λ (u : Transform). refined 0 u a) (rw g at (built_plain c a v)))
+  pub refine_rebuilds : alignment_refusal (length bits) w h v ≡ 0 → (a : Option Point) → located_of bits w h t v m ≡ a → is_some a ≡ true → (b : Transform) → built_fit c a v ≡ Some b
+      → refine_of bits w h c v t m ≡ Ok (record { transform = plain b.m; marker = a })
+  unfolding refine_of rebuilt_of alignment_refusal
+  refine_rebuilds e a l f b g = rw (l, f, g) (ap (λ (u : Transform). refined checks u a) (rw g at (built_plain c a v)) ∙ sym (checked_passed checks _ (sym e)))
 
   -- where there is no such transform, it keeps those of the one given
-  pub refine_keeps : alignment_refusal (length bits) w h v ≡ 0 → (a : Option Point) → located_of bits w h t v m ≡ a → (built_of c a v).fit ≡ None
-      → refine_of bits w h c v t m ≡ record { refusal = 0; transform = t; marker = a }
-  unfolding refine_of rebuilt_of
-  refine_keeps e a l b = rw (e, l, b) (go (is_found a))
+  pub refine_keeps : alignment_refusal (length bits) w h v ≡ 0 → (a : Option Point) → located_of bits w h t v m ≡ a → built_fit c a v ≡ None
+      → refine_of bits w h c v t m ≡ Ok (record { transform = t; marker = a })
+  unfolding refine_of rebuilt_of alignment_refusal
+  refine_keeps e a l b = rw (l, b) (go (is_some a) ∙ sym (checked_passed checks _ (sym e)))
     where
-      go : (f : Bool) → refined 0 (cond f t t) a ≡ record { refusal = 0; transform = t; marker = a }
+      go : (f : Bool) → refined checks (cond f t t) a ≡ refined checks t a
       go true = refl
       go false = refl
 
-  -- after a refusal all of them are 0
-  pub refine_refused : (n : ℕ) → alignment_refusal (length bits) w h v ≡ suc n → refine_of bits w h c v t m ≡ record { refusal = suc n; transform = zero_transform; marker = None }
-  unfolding refine_of
-  refine_refused n e = rw e
+  -- a refusal answers no transform
+  pub refine_refused : (n : ℕ) → alignment_refusal (length bits) w h v ≡ suc n → IsErrAnd (refine_of bits w h c v t m) (λ r. refusal_number r ≡ suc n)
+  unfolding refine_of alignment_refusal
+  refine_refused n e = is_error _ n (number_checked checks _ ∙ e)
+    where
+      is_error : (a : Result Refined Refusal) (n : ℕ) → number_of a ≡ suc n → IsErrAnd a (λ r. refusal_number r ≡ suc n)
+      is_error (Ok x) n q = absurd (omega arith)
+      is_error (Err r) n q = q
 
   -- a transform without a lens never gets one
-  pub refined-plain : Plain t → Plain (refine_of bits w h c v t m).transform
+  pub refined-plain : Plain t → IfOk (refine_of bits w h c v t m) (λ r. Plain r.transform)
   unfolding refine_of rebuilt_of
   refined-plain p =
       let a = located_of bits w h t v m in
-      let b = (built_of c a v).fit in
-      unless_either Plain (alignment_refusal (length bits) w h v) zero_transform (rebuilt_of c a v t) refl (either Plain (is_found a) (unwrap_or b t) t (or_plain b (built_plain c a v)) p)
+      let b = built_fit c a v in
+      checked_holds (λ (r : Refined). Plain r.transform) checks _ (either Plain (is_some a) (unwrap_or b t) t (or_plain b (built_plain c a v)) p)
     where
       or_plain : (b : Option Transform) → IfSome b Plain → Plain (unwrap_or b t)
       or_plain None _ = p
       or_plain (Some u) q = q
+
+-- the eight numbers and the marker, or the refusal
+abbrev pub numbers_of : Result Refined Refusal → Result (List Float × Option Point) Refusal
+numbers_of (Ok r) = Ok (r.transform.m, r.marker)
+numbers_of (Err e) = Err e
+
+numbers_checked : (cs : List Check) (r : Refined) → numbers_of (checked cs r) ≡ checked cs (r.transform.m, r.marker)
+numbers_checked [] r = refl
+numbers_checked (c ∷ cs) r = go c.refuses (numbers_checked cs r)
+  where
+    go : (b : Bool) → numbers_of (checked cs r) ≡ checked cs (r.transform.m, r.marker) → numbers_of (cond b (Err c.refusal) (checked cs r)) ≡ cond b (Err c.refusal) (checked cs (r.transform.m, r.marker))
+    go true h = refl
+    go false h = h
 
 -- ---- strength 0
 module _ (bits : List ℕ) (w h : ℕ) (t : Transform) (e : eq t.strength d0 ≡ true) where
@@ -78,7 +105,7 @@ module _ (bits : List ℕ) (w h : ℕ) (t : Transform) (e : eq t.strength d0 ≡
 
   searched_plain : (v : ℕ) (m : Float) → searched_of bits w h t v m ≡ searched_of bits w h (plain t.m) v m
   unfolding searched_of
-  searched_plain v m = ap (λ (p : Point). (find_of bits w h p m).marker) (same_places t e (centre_of v) (centre_of v))
+  searched_plain v m = ap (λ (p : Point). result_unwrap_or (find_of bits w h p m) None) (same_places t e (centre_of v) (centre_of v))
 
   located_plain : (v : ℕ) (m : Float) → located_of bits w h t v m ≡ located_of bits w h (plain t.m) v m
   unfolding located_of
@@ -87,30 +114,26 @@ module _ (bits : List ℕ) (w h : ℕ) (t : Transform) (e : eq t.strength d0 ≡
   -- `match_alignment` and `locate_alignment`
   pub match_plain : (v : ℕ) → match_of bits w h t v ≡ match_of bits w h (plain t.m) v
   unfolding match_of
-  match_plain v = ap (answer (alignment_refusal (length bits) w h v)) (matched_plain v)
+  match_plain v = ap (answer (alignment_checks (length bits) w h v)) (matched_plain v)
 
   pub locate_plain : (v : ℕ) (m : Float) → locate_of bits w h t v m ≡ locate_of bits w h (plain t.m) v m
   unfolding locate_of
-  locate_plain v m = ap (answer (alignment_refusal (length bits) w h v)) (located_plain v m)
+  locate_plain v m = ap (answer (alignment_checks (length bits) w h v)) (located_plain v m)
 
   -- `refine_alignment`: the same refusal, the same marker and the same eight numbers
   numbers_plain : (c : Corners) (a : Option Point) (v : ℕ) → (rebuilt_of c a v t).m ≡ (rebuilt_of c a v (plain t.m)).m
   unfolding rebuilt_of
-  numbers_plain c a v = go (is_found a) (built_of c a v).fit
+  numbers_plain c a v = go (is_some a) (built_fit c a v)
     where
       go : (f : Bool) (b : Option Transform) → (cond f (unwrap_or b t) t).m ≡ (cond f (unwrap_or b (plain t.m)) (plain t.m)).m
       go true None = refl
       go true (Some u) = refl
       go false b = refl
 
-  pub refine_plain : (c : Corners) (v : ℕ) (m : Float) → let r = refine_of bits w h c v t m in let s = refine_of bits w h c v (plain t.m) m in
-      (r.refusal ≡ s.refusal) × (r.marker ≡ s.marker) × (r.transform.m ≡ s.transform.m)
+  pub refine_plain : (c : Corners) (v : ℕ) (m : Float) → numbers_of (refine_of bits w h c v t m) ≡ numbers_of (refine_of bits w h c v (plain t.m) m)
   unfolding refine_of
-  refine_plain c v m = rw (located_plain v m) (refl, refl, go (alignment_refusal (length bits) w h v))
-    where
-      a : Option Point
-      a = located_of bits w h (plain t.m) v m
-
-      go : (n : ℕ) → (unless n zero_transform (rebuilt_of c a v t)).m ≡ (unless n zero_transform (rebuilt_of c a v (plain t.m))).m
-      go zero = numbers_plain c a v
-      go (suc n) = refl
+  refine_plain c v m =
+      let cs = alignment_checks (length bits) w h v in
+      let a = located_of bits w h (plain t.m) v m in
+      rw (located_plain v m)
+      (numbers_checked cs _ ∙ ap (λ (n : List Float). checked cs (n, a)) (numbers_plain c a v) ∙ sym (numbers_checked cs _))

@@ -1,6 +1,5 @@
 pub mod Taps
 pub mod Scores
-pub mod Refusals
 pub mod Refining
 pub mod Order
 pub mod First
@@ -12,3 +11,4 @@ pub mod Colours
 pub mod Theorems
 pub mod Alike
 pub mod Lenses
+pub mod Views

@@ -1,6 +1,6 @@
 -- What the definitions say, in document 01's words. Assumes nothing.
-use Rattle.std.specs.Prelude.{None}
-use mathlib.Core.Path.{◌≡◌, refl}
+use Rattle.std.specs.Prelude.{None, Ok}
+use mathlib.Core.Path.{◌≡◌, refl, sym}
 use mathlib.Core.Bool.{Bool, true, false, cond, ◌||◌}
 use mathlib.Core.List.{List, ◌∷◌}
 use Prim.Native.Nat.{ℕ, ◌+◌}
@@ -8,6 +8,7 @@ use native.Mathlib.Omega.{arith}
 use lib.Count.{count_trailing_zeros}
 use lib.ListN.{length}
 use lib.Ieee.{Float, nan, of_bits, of_fields, of_int, mul, round, units, odd, size, span, climb, lt, eq, ne, to_unsigned}
+use Rattle.lcr_core.proofs.Answers.{checked_passed}
 use Rattle.float.specs.Floats.{is_number}
 use Rattle.float.specs.Constants.{half, f1/8, f1/32}
 use Rattle.float.proofs.Order.{le-nan}
@@ -15,7 +16,7 @@ use Rattle.binary.specs.Binary.{bit, dark_at}
 use Rattle.transform.specs.declared.Transform.{Transform}
 use Rattle.geometry.specs.Order.{point}
 use Rattle.geometry.specs.declared.Corners.{Corners}
-use Rattle.alignment.specs.Alignment.{alignment_refusal, located_of, rebuilt_of, refine_of}
+use Rattle.alignment.specs.Alignment.{alignment_checks, alignment_refusal, located_of, rebuilt_of, refine_of}
 use Rattle.alignment.specs.Template.{outside_of, pixel_at, tapped, less, no_site, sweep_best, best_of, matched_of}
 use Rattle.alignment.specs.declared.template.Votes.{Votes}
 use Rattle.alignment.proofs.First.{FirstBest}
@@ -58,9 +59,9 @@ locate_one bits w h t m = refl
 
 -- where refining finds no marker, it answers none and keeps the transform it was given
 pub refine_none : (bits : List ℕ) (w h : ℕ) (c : Corners) (v : ℕ) (t : Transform) (m : Float) → alignment_refusal (length bits) w h v ≡ 0 → located_of bits w h t v m ≡ None
-    → refine_of bits w h c v t m ≡ record { refusal = 0; transform = t; marker = None }
-unfolding refine_of rebuilt_of
-refine_none bits w h c v t m e n = rw (e, n)
+    → refine_of bits w h c v t m ≡ Ok (record { transform = t; marker = None })
+unfolding refine_of rebuilt_of alignment_refusal
+refine_none bits w h c v t m e n = rw n (sym (checked_passed (alignment_checks (length bits) w h v) _ (sym e)))
 
 -- ---- the three sweeps, each about the best so far: its best beats each earlier site, by a higher score or an equal one and a smaller squared offset,
 -- and no later site beats it, so that equal scores and squared offsets go to the earlier site

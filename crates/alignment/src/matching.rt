@@ -6,7 +6,6 @@ ghost use Rattle.alignment.specs.Template.{no_site, sweep_best, best_of, centre_
 ghost use Rattle.alignment.specs.Known.{half_at, colour_at, SameFrom};
 
 use super::template::{Site, View};
-use lcr_core::version::Version;
 use transform::Point;
 
 // n / 2
@@ -16,14 +15,14 @@ fn half_of(n: u16) -> f32
     n as f32 * 0.5
 }
 
-// The marker's centre in modules, which is its x and its y.
-pub fn centre(version: u8) -> f32
-    ensures { result ≡ centre_of version }
-{
-    Version(version).side() as f32 - 6.5
-}
-
 impl<'a> View<'a> {
+    // The marker's centre in modules, which is its x and its y.
+    pub fn centre(&self) -> f32
+        ensures { result ≡ centre_of self.now.version.0 }
+    {
+        self.version.side() as f32 - 6.5
+    }
+
     // Module k of 21 × 21, half a module apart, from n / 2 on: 1 for dark.
     fn colour(&self, n: u16, k: u16) -> u8
         requires { (n ≤ 4096) × (k < 441) }
@@ -43,40 +42,40 @@ impl<'a> View<'a> {
     }
 
     // The first sweep. Its 169 sites have 25 modules each, but only 441 different ones.
-    fn first_sweep(&self, version: u8) -> Site
-        ensures { let s = self.now in result ≡ sweep_best s.bits.now s.width s.height s.transform (centre_of version) 13 half no_site }
+    fn first_sweep(&self) -> Site
+        ensures { let s = self.now in result ≡ sweep_best s.bits.now s.width s.height s.transform (centre_of s.version.0) 13 half no_site }
     {
         let mut colours = [0u8; 441];
-        self.fill_colours(2 * Version(version).side() - 23, &mut colours);
+        self.fill_colours(2 * self.version.side() - 23, &mut colours);
         let none = Site {
             score: 0,
             dist: 1.0 / 0.0,
             x: 0.0,
             y: 0.0,
         };
-        self.sweep(centre(version), 13, 0.5, none, &colours)
+        self.sweep(self.centre(), 13, 0.5, none, &colours)
     }
 
     // The three sweeps.
-    fn best_site(&self, version: u8) -> Site
-        ensures { let s = self.now in SameFrom 23 result (best_of s.bits.now s.width s.height s.transform (centre_of version)) }
+    fn best_site(&self) -> Site
+        ensures { let s = self.now in SameFrom 23 result (best_of s.bits.now s.width s.height s.transform (centre_of s.version.0)) }
     {
-        let c = centre(version);
+        let c = self.centre();
         let none = &self.bits[..0];
-        let a = self.first_sweep(version);
+        let a = self.first_sweep();
         let b = self.sweep(c, 9, 0.125, a, none);
         self.sweep(c, 9, 0.03125, b.raised(), none)
     }
 
     // The marker at the best site, where 23 modules agree.
-    pub fn matched(&self, version: u8) -> Option<Point>
-        ensures { let s = self.now in result ≡ matched_of s.bits.now s.width s.height s.transform version }
+    pub fn matched(&self) -> Option<Point>
+        ensures { let s = self.now in result ≡ matched_of s.bits.now s.width s.height s.transform s.version.0 }
     {
-        if version < 2 {
+        if self.version.0 < 2 {
             return None;
         }
-        let c = centre(version);
-        let s = self.best_site(version);
+        let c = self.centre();
+        let s = self.best_site();
         if s.score < 23 {
             return None;
         }

@@ -1,13 +1,18 @@
 // The template match: the site at which most of the marker's 25 modules have their colour.
-ghost use Rattle.std.specs.Prelude.{◌≡◌, ◌+◌, ◌*◌, ◌≤◌, ◌<◌};
+ghost use Rattle.std.specs.Prelude.{◌≡◌, ◌+◌, ◌*◌, ◌≤◌, ◌<◌, length, IfOk};
+ghost use Rattle.lcr_core.specs.Outcome.{number_of};
 ghost use Rattle.float.specs.Steps.{plus32};
 ghost use Rattle.transform.specs.Apply.{applied};
 ghost use Rattle.alignment.specs.Template.{outside_of, pixel_at, tapped, module_dark, want_dark, less, agree, score_of, site_at, better_of, sweep_best};
+ghost use Rattle.alignment.specs.Alignment.{alignment_refusal};
 ghost use Rattle.alignment.specs.Counting.{Counted, UpTo, least_of};
 ghost use Rattle.alignment.specs.Known.{KnownAt, Known, raised_of};
 
 use binary::dark;
+use binary::refusal::check_bits;
 use float::to_u32;
+use lcr_core::Refusal;
+use lcr_core::version::Version;
 use transform::{Point, Transform};
 
 // How many taps of a module lie in the picture, and how many of these are dark.
@@ -78,16 +83,40 @@ fn wants_dark(i: u8, j: u8) -> bool
     i.abs_diff(2).max(j.abs_diff(2)) != 1
 }
 
-// A picture, and the map from modules to its pixels.
+// A picture that is not refused, the version of the symbol in it, and the map from its modules to pixels.
 #[derive(Clone, Copy)]
 pub struct View<'a> {
     pub bits: &'a [u8],
     pub width: u16,
     pub height: u16,
+    pub version: Version,
     pub transform: Transform,
+    pub ghost passes: { alignment_refusal (length bits.now) width height version.0 ≡ 0 },
 }
 
 impl<'a> View<'a> {
+    // The view of a picture, or refusal 1, 2, 4 or 7, in this order.
+    pub fn new(
+        bits: &'a [u8],
+        width: u32,
+        height: u32,
+        version: Version,
+        transform: Transform,
+    ) -> Result<View<'a>, Refusal>
+        ensures number { number_of result ≡ alignment_refusal (length bits.now) width height version.0 }
+        ensures view { IfOk result (λ v. (v.bits.now ≡ bits.now) × (v.width ≡ width) × (v.height ≡ height) × (v.version ≡ version) × (v.transform ≡ transform)) }
+    {
+        check_bits(bits.len(), width, height)?;
+        Version::new(version.0)?;
+        Ok(View {
+            bits,
+            width: width as u16,
+            height: height as u16,
+            version,
+            transform,
+        })
+    }
+
     // The pixel at p, 1 for dark.
     fn pixel_at(&self, p: Point) -> u8
         ensures value { let s = self.now in result ≡ pixel_at s.bits.now s.width s.height p }

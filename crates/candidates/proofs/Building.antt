@@ -1,20 +1,21 @@
 -- The steps of `build_detection`, as the code takes them. Assumes nothing.
-use Rattle.std.proofs.Common.{◌≡◌, true, Option, Some, None, refl, ◌∙◌}
+use Rattle.std.proofs.Common.{◌≡◌, true, Option, Some, None, Result, refl, sym, ap, ◌∙◌}
+use Rattle.std.specs.Result.{result_unwrap_or}
 use mathlib.Core.List.{List}
 use Prim.Native.Nat.{ℕ}
 use lib.Ieee.{Float}
 use Rattle.lcr_core.specs.declared.version.Version.{Version}
 use Rattle.transform.specs.declared.Transform.{Transform}
-use Rattle.geometry.specs.declared.Built.{Built as Transformed}
 use Rattle.geometry.specs.declared.Corners.{Corners}
-use Rattle.geometry.specs.Build.{built_of}
+use Rattle.geometry.specs.Build.{built_of, built_fit}
 use Rattle.geometry.specs.Estimate.{estimate_of}
 use Rattle.geometry.specs.Score.{mean_of}
-use Rattle.rows.specs.declared.Located.{Located}
+use Rattle.lcr_core.specs.declared.Refusal.{Refusal}
+use Rattle.transform.specs.declared.Point.{Point}
 use Rattle.alignment.specs.declared.Refined.{Refined}
 use Rattle.alignment.specs.Alignment.{locate_of, refine_of}
 use Rattle.candidates.specs.declared.Built.{Built}
-use Rattle.candidates.specs.Detection.{none, by_fit, fit_with, marker_by, refined_from, build_with, build_of}
+use Rattle.candidates.specs.Detection.{none, unrefined, by_fit, fit_with, marker_by, refined_from, build_with, build_of}
 
 -- what `by_fit` is where there is no transform, and where there is one
 at_none : (o : Option Transform) (build : Transform → Built) → o ≡ None → none ≡ by_fit o build
@@ -25,19 +26,19 @@ at_some : (o : Option Transform) (build : Transform → Built) (t : Transform) �
 at_some None build t e = cc
 at_some (Some u) build t e = cc
 
-module _ (bits : List ℕ) (w h : ℕ) (c : Corners) (s : Float) (v : Version) (m : Float) (em : m ≡ mean_of c.tl c.tr c.bl) (rough : Transformed) (er : rough ≡ built_of c None v.0) where
-  roughly : fit_with bits w h c None v.0 ≡ rough.fit
-  roughly = rw er
+module _ (bits : List ℕ) (w h : ℕ) (c : Corners) (s : Float) (v : Version) (m : Float) (em : m ≡ mean_of c.tl c.tr c.bl) (rough : Option Transform) (er : rough ≡ built_fit c None v.0) where
+  roughly : fit_with bits w h c None v.0 ≡ rough
+  roughly = sym er
 
-  pub rough_none : rough.fit ≡ None → (r : Built) → r ≡ none → r ≡ build_with bits w h c s v.0
+  pub rough_none : rough ≡ None → (r : Built) → r ≡ none → r ≡ build_with bits w h c s v.0
   unfolding build_with
   rough_none f r e = e ∙ at_none _ _ (roughly ∙ f)
 
-  module _ (t : Transform) (et : rough.fit ≡ Some t) (located : Located) (el : located ≡ locate_of bits w h t v.0 m) (built : Transformed) (eb : built ≡ built_of c located.marker v.0) where
-    same_fit : fit_with bits w h c (marker_by bits w h c t v.0) v.0 ≡ built.fit
+  module _ (t : Transform) (et : rough ≡ Some t) (marker : Option Point) (el : marker ≡ result_unwrap_or (locate_of bits w h t v.0 m) None) (built : Option Transform) (eb : built ≡ built_fit c marker v.0) where
+    same_fit : fit_with bits w h c (marker_by bits w h c t v.0) v.0 ≡ built
     same_fit = rw (eb, el, em)
 
-    pub fit_none : built.fit ≡ None → (r : Built) → r ≡ none → r ≡ build_with bits w h c s v.0
+    pub fit_none : built ≡ None → (r : Built) → r ≡ none → r ≡ build_with bits w h c s v.0
     unfolding build_with
     fit_none f r e = e ∙ at_none _ _ (same_fit ∙ f) ∙ at_some _ _ t (roughly ∙ et)
 
@@ -45,7 +46,7 @@ module _ (bits : List ℕ) (w h : ℕ) (c : Corners) (s : Float) (v : Version) (
     abbrev made : Refined → Float → Built
     made r x = record { found = true; detection = record { finders = c; marker = r.marker; version = v; transform = r.transform; score = s; mean = x } }
 
-    pub complete : (u : Transform) → built.fit ≡ Some u → (r : Refined) → r ≡ refine_of bits w h c v.0 u m → made r m ≡ build_with bits w h c s v.0
+    pub complete : (u : Transform) → built ≡ Some u → (r : Refined) → r ≡ result_unwrap_or (refine_of bits w h c v.0 u m) unrefined → made r m ≡ build_with bits w h c s v.0
     unfolding build_with
     complete u f r e = done ∙ at_some _ _ u (same_fit ∙ f) ∙ at_some _ _ t (roughly ∙ et)
       where
@@ -60,3 +61,7 @@ module _ (bits : List ℕ) (w h : ℕ) (c : Corners) (s : Float) (found : Option
   pub of_none : found ≡ None → r ≡ none → r ≡ build_of bits w h c s
   unfolding build_of
   of_none f g = rw (← e, f) g
+
+-- what is read of an answer that may be refused
+pub read_of : {A : Type 0} (answer given : Result A Refusal) (other r : A) → r ≡ result_unwrap_or answer other → answer ≡ given → r ≡ result_unwrap_or given other
+read_of answer given other r e q = rw (← q) e

@@ -1,6 +1,10 @@
 -- No detection has a lens (document 02, N12: "transforms built from finders have strength 0"): centre and strength are 0 at each of the three places that
 -- `candidates_from` and `detect_candidates` answer, and in what `detect` answers, refused or not, so that the eight numbers say all. Assumes nothing.
 use Rattle.std.specs.Prelude.{Option, Some, None}
+use Rattle.lcr_core.proofs.Answers.{either_or}
+use Rattle.alignment.specs.declared.Refined.{Refined}
+use Rattle.transform.specs.Fit.{Plain}
+use Rattle.alignment.specs.Alignment.{refine_of}
 use mathlib.Core.Path.{◌≡◌, refl}
 use Rattle.transform.specs.declared.Transform.{Transform}
 use mathlib.Core.List.{List, [], ◌∷◌}
@@ -22,7 +26,7 @@ use Rattle.ranking.specs.declared.Triple.{Triple}
 use Rattle.ranking.specs.Ranking.{ranked}
 use Rattle.candidates.specs.declared.Built.{Built}
 use Rattle.candidates.specs.declared.Detection.{Detection}
-use Rattle.candidates.specs.Detection.{zero_detection, WithoutLens, by_fit, fit_with, marker_by, build_with, build_for, build_of}
+use Rattle.candidates.specs.Detection.{zero_detection, WithoutLens, unrefined, by_fit, fit_with, marker_by, build_with, build_for, build_of}
 use Rattle.candidates.specs.Candidates.{corners_of, detection_of, detections_of, table_of, first, from_answer, detect_answer, detect_first}
 use Rattle.candidates.proofs.Grades.{each_kept}
 use Rattle.lcr_core.specs.declared.version.Version.{Version}
@@ -38,7 +42,7 @@ module _ (bits : List ℕ) (w h : ℕ) (c : Corners) (s : Float) where
       by (fit_with bits w h c None v) _
       (λ rough _.
       let a = marker_by bits w h c rough v in
-      by (fit_with bits w h c a v) _ (λ t e. refined-plain bits w h c v t (mean_of c.tl c.tr c.bl) (rw e at (built_plain c a v))))
+      by (fit_with bits w h c a v) _ (λ t e. either_or (λ (r : Refined). Plain r.transform) (refine_of bits w h c v t (mean_of c.tl c.tr c.bl)) unrefined (refined-plain bits w h c v t (mean_of c.tl c.tr c.bl) (rw e at (built_plain c a v))) refl))
     where
       by : (f : Option Transform) (build : Transform → Built) → ((t : Transform) → f ≡ Some t → PlainBuilt (build t)) → PlainBuilt (by_fit f build)
       by None build h = refl

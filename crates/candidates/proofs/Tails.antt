@@ -1,6 +1,9 @@
 -- Of a bit picture of w × h pixels nothing beyond its (w × h + 7) / 8 bytes is read, by the search, by the alignment functions and by the detections.
 -- Assumes nothing.
-use Rattle.std.specs.Prelude.{Option, Some, None}
+use Rattle.std.specs.Prelude.{Option, Some, None, Result}
+use Rattle.std.specs.Result.{result_unwrap_or}
+use Rattle.lcr_core.specs.Outcome.{Check}
+use Rattle.lcr_core.specs.declared.Refusal.{Refusal}
 use mathlib.Core.Path.{◌≡◌, refl, sym, ap, ◌∙◌, fun_ext}
 use mathlib.Core.Bool.{Bool, true, false, not, cond, ◌&&◌}
 use mathlib.Core.List.{List, [], ◌∷◌}
@@ -18,7 +21,7 @@ use Rattle.lists.proofs.Numbers.{row_within}
 use Rattle.binary.specs.Binary.{dark_bit, dark_at, bytes_of}
 use Rattle.binary.specs.Line.{row, column, run, run_back, run_before, run_after, end_before, end_after}
 use Rattle.binary.proofs.Ends.{end_of, before_end, after_end}
-use Rattle.binary.specs.Refusal.{short_bits, bits_refusal}
+use Rattle.binary.specs.Refusal.{short_bits}
 use Rattle.confirm.specs.Confirm.{limit_of, side_before, side_after, counted_of, any_cut, core_of, vertical_by, horizontal_by, row_by, column_by, confirmed_by, confirm_vertical, confirm_horizontal, row_confirmed, column_confirmed, confirmed_on}
 use Rattle.std.specs.Prelude.{Option, Some, None, option_and_then}
 use Rattle.confirm.proofs.Inside.{dark_inside}
@@ -27,7 +30,7 @@ use Rattle.transform.specs.declared.Point.{Point}
 use Rattle.transform.specs.declared.Transform.{Transform}
 use Rattle.geometry.specs.Score.{mean_of}
 use Rattle.geometry.specs.Estimate.{estimate_of}
-use Rattle.geometry.specs.Build.{built_of}
+use Rattle.geometry.specs.Build.{built_fit}
 use Rattle.geometry.specs.declared.Corners.{Corners}
 use Rattle.geometry.specs.declared.Finder.{Finder}
 use Rattle.finders.specs.Hits.{Hit, runs, hits, line_hits}
@@ -37,18 +40,17 @@ use Rattle.finders.proofs.Axes.{second_same}
 use Rattle.finders.specs.Rank.{ranked}
 use Rattle.finders.specs.Answer.{held_list, find_refusal, finders_of}
 use Rattle.rows.specs.Rows.{pos_part, neg_part, column_end, row_end, radius_of, window_of, middle_of, column_runs, limit_of as rowsLimit, marker_at, confirm_of, starts_at, row_runs, confirmed, seen_of, nearer_of, row_nearest, nearest_of, answer, find_of}
-use Rattle.rows.specs.declared.Located.{Located}
 use Rattle.rows.specs.declared.window.Window.{Window}
 use Rattle.alignment.specs.declared.Refined.{Refined}
 use Rattle.alignment.specs.declared.template.Votes.{Votes}
 use Rattle.alignment.specs.Template.{taps, no_votes, pixel_at, tapped, module_dark, centre_of, matched_of}
-use Rattle.alignment.specs.Alignment.{alignment_refusal, or_else, searched_of, located_of, locate_of, rebuilt_of, refined, refine_of}
+use Rattle.alignment.specs.Alignment.{alignment_checks, or_else, searched_of, located_of, locate_of, rebuilt_of, refined, refine_of}
 use Rattle.alignment.proofs.Alike.{best_alike}
 use Rattle.ranking.specs.declared.Triple.{Triple}
 use Rattle.ranking.specs.Ranking.{ranked as rankedTriples}
 use Rattle.candidates.specs.declared.Detection.{Detection}
 use Rattle.candidates.specs.declared.Built.{Built}
-use Rattle.candidates.specs.Detection.{by_fit, build_with, build_of, build_for}
+use Rattle.candidates.specs.Detection.{unrefined, by_fit, build_with, build_of, build_for}
 use Rattle.candidates.specs.Candidates.{corners_of, kept, detection_of, detections_of, answered, detect_answer}
 use Rattle.lcr_core.specs.declared.version.Version.{Version}
 
@@ -134,7 +136,7 @@ column_through down across x centre m =
 abbrev build_by : (Transform → Option Point) → (Transform → Refined) → Corners → Float → ℕ → Built
 build_by locate refine c s v =
     let made : Refined → Built = λ r. record { found = true; detection = record { finders = c; marker = r.marker; version = record { 0 = v }; transform = r.transform; score = s; mean = mean_of c.tl c.tr c.bl } } in
-    by_fit (built_of c None v).fit (λ rough. by_fit (built_of c (locate rough) v).fit (λ t. made (refine t)))
+    by_fit (built_fit c None v) (λ rough. by_fit (built_fit c (locate rough) v) (λ t. made (refine t)))
 
 -- the window of the search along rows lies in the picture
 end_within : (p : Point) (m : Float) (w h : ℕ) → (window_of p m w h).end ≤ w
@@ -284,12 +286,7 @@ module _ (a b : List ℕ) (w h : ℕ) (same : (k : ℕ) → k < w * h → dark_b
 
   -- ---- what is refused for too few bytes, and what follows
   module _ (short : short_bits (length a) w h ≡ short_bits (length b) w h) where
-    refusal_same : bits_refusal (length a) w h ≡ bits_refusal (length b) w h
-    unfolding bits_refusal
-    refusal_same = rw short
-
-    alignment_same : (v : ℕ) → alignment_refusal (length a) w h v ≡ alignment_refusal (length b) w h v
-    unfolding alignment_refusal
+    alignment_same : (v : ℕ) → alignment_checks (length a) w h v ≡ alignment_checks (length b) w h v
     alignment_same v = rw short
 
     six_same : find_refusal a w h ≡ find_refusal b w h
@@ -298,11 +295,11 @@ module _ (a b : List ℕ) (w h : ℕ) (same : (k : ℕ) → k < w * h → dark_b
 
     find_same : (p : Point) (m : Float) → find_of a w h p m ≡ find_of b w h p m
     unfolding find_of
-    find_same p m = rw (refusal_same, nearest_same (window_of p m w h) p m (end_within p m w h) (bottom_within p m w h))
+    find_same p m = rw (short, nearest_same (window_of p m w h) p m (end_within p m w h) (bottom_within p m w h))
 
     searched_same : (t : Transform) (v : ℕ) (m : Float) → searched_of a w h t v m ≡ searched_of b w h t v m
     unfolding searched_of
-    searched_same t v m = ap (λ (l : Located). l.marker) (find_same (applied t (centre_of v) (centre_of v)) m)
+    searched_same t v m = ap (λ (l : Result (Option Point) Refusal). result_unwrap_or l None) (find_same (applied t (centre_of v) (centre_of v)) m)
 
     located_same : (t : Transform) (v : ℕ) (m : Float) → located_of a w h t v m ≡ located_of b w h t v m
     unfolding located_of
@@ -313,20 +310,20 @@ module _ (a b : List ℕ) (w h : ℕ) (same : (k : ℕ) → k < w * h → dark_b
     locate_same : (t : Transform) (v : ℕ) (m : Float) → locate_of a w h t v m ≡ locate_of b w h t v m
     unfolding locate_of
     locate_same t v m =
-        ap (λ (n : ℕ). answer n (located_of a w h t v m)) (alignment_same v) ∙ ap (answer (alignment_refusal (length b) w h v)) (located_same t v m)
+        ap (λ (cs : List Check). answer cs (located_of a w h t v m)) (alignment_same v) ∙ ap (answer (alignment_checks (length b) w h v)) (located_same t v m)
 
     refine_same : (c : Corners) (v : ℕ) (t : Transform) (m : Float) → refine_of a w h c v t m ≡ refine_of b w h c v t m
     unfolding refine_of
     refine_same c v t m =
-        ap (λ (n : ℕ). refined n (rebuilt_of c (located_of a w h t v m) v t) (located_of a w h t v m)) (alignment_same v)
-        ∙ ap (λ (k : Option Point). refined (alignment_refusal (length b) w h v) (rebuilt_of c k v t) k) (located_same t v m)
+        ap (λ (cs : List Check). refined cs (rebuilt_of c (located_of a w h t v m) v t) (located_of a w h t v m)) (alignment_same v)
+        ∙ ap (λ (k : Option Point). refined (alignment_checks (length b) w h v) (rebuilt_of c k v t) k) (located_same t v m)
 
     build_same : (c : Corners) (s : Float) (v : ℕ) → build_with a w h c s v ≡ build_with b w h c s v
     unfolding build_with
     build_same c s v =
         let m = mean_of c.tl c.tr c.bl in
-        ap (λ (l : Transform → Option Point). build_by l (λ t. refine_of a w h c v t m) c s v) (fun_ext (λ t. ap (λ (l : Located). l.marker) (locate_same t v m)))
-        ∙ ap (λ (r : Transform → Refined). build_by (λ t. (locate_of b w h t v m).marker) r c s v) (fun_ext (λ t. refine_same c v t m))
+        ap (λ (l : Transform → Option Point). build_by l (λ t. result_unwrap_or (refine_of a w h c v t m) unrefined) c s v) (fun_ext (λ t. ap (λ (l : Result (Option Point) Refusal). result_unwrap_or l None) (locate_same t v m)))
+        ∙ ap (λ (r : Transform → Refined). build_by (λ t. result_unwrap_or (locate_of b w h t v m) None) r c s v) (fun_ext (λ t. ap (λ (r : Result Refined Refusal). result_unwrap_or r unrefined) (refine_same c v t m)))
 
     built_same : (c : Corners) (s : Float) → build_of a w h c s ≡ build_of b w h c s
     unfolding build_of

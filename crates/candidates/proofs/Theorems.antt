@@ -1,7 +1,7 @@
 -- What the definitions say of the detections: in a call that isn't refused no step of `build_detection` is; `detect_candidates` is `candidates_from` of the
 -- picture's finders; there are three detections at most, and none of fewer than three finders. Assumes nothing.
 use Rattle.std.specs.Prelude.{Some, None, Option}
-use mathlib.Core.Path.{◌≡◌, refl, ap}
+use mathlib.Core.Path.{◌≡◌, refl, ap, ◌∙◌}
 use mathlib.Core.Bool.{Bool, true, false, cond, ◌||◌}
 use mathlib.Core.List.{List, [], ◌∷◌}
 use Prim.Native.Nat.{ℕ, ◌≤◌, ◌<◌}
@@ -12,10 +12,11 @@ use borrow.Author.Tests.{le-leb}
 use Rattle.float.specs.Constants.{f0}
 use Rattle.lists.specs.Lists.{Each, flat_map}
 use Rattle.lists.proofs.Folds.{flat_map_few}
-use Rattle.lcr_core.specs.Outcome.{zero_side, large_side}
+use Rattle.lcr_core.specs.Outcome.{number_of, zero_side, large_side}
 use Rattle.lcr_core.proofs.Checks.{first_passes}
+use Rattle.lcr_core.proofs.Answers.{number_checked}
 use Rattle.lcr_core.specs.declared.version.Version.{Version}
-use Rattle.lcr_core.specs.Version.{valid, version_refusal}
+use Rattle.lcr_core.specs.Version.{valid, version_checks}
 use Rattle.binary.specs.Refusal.{short_bits, bits_refusal}
 use Rattle.transform.specs.declared.Transform.{Transform}
 use Rattle.geometry.specs.declared.Corners.{Corners}
@@ -23,7 +24,7 @@ use Rattle.geometry.specs.declared.Finder.{Finder}
 use Rattle.geometry.specs.Estimate.{side_in, nearest_version, estimate_of}
 use Rattle.geometry.specs.Build.{built_of}
 use Rattle.geometry.proofs.Theorems.{from_1_to_32}
-use Rattle.alignment.specs.Alignment.{alignment_refusal, locate_of, refine_of}
+use Rattle.alignment.specs.Alignment.{alignment_checks, alignment_refusal, locate_of, refine_of}
 use Rattle.finders.specs.Answer.{find_refusal, finders_of}
 use Rattle.ranking.specs.declared.Triple.{Triple}
 use Rattle.ranking.specs.Ranking.{ranked}
@@ -61,17 +62,17 @@ module _ (bits : List ℕ) (w h : ℕ) (done : bits_refusal (length bits) w h �
   unfolding alignment_refusal
   passes = let p = bits_passed (length bits) w h done in rw (p.0, p.1, p.2, estimate_valid c v e)
 
-  pub built_not_refused : (m : Option Point) → (built_of c m v.0).refusal ≡ 0
-  unfolding built_of version_refusal
-  built_not_refused m = rw (estimate_valid c v e)
+  pub built_not_refused : (m : Option Point) → number_of (built_of c m v.0) ≡ 0
+  unfolding built_of
+  built_not_refused m = number_checked (version_checks v.0) _ ∙ rw (estimate_valid c v e)
 
-  pub located_not_refused : (t : Transform) (m : Float) → (locate_of bits w h t v.0 m).refusal ≡ 0
-  unfolding locate_of
-  located_not_refused t m = passes
+  pub located_not_refused : (t : Transform) (m : Float) → number_of (locate_of bits w h t v.0 m) ≡ 0
+  unfolding locate_of alignment_refusal
+  located_not_refused t m = number_checked (alignment_checks (length bits) w h v.0) _ ∙ passes
 
-  pub refined_not_refused : (t : Transform) (m : Float) → (refine_of bits w h c v.0 t m).refusal ≡ 0
-  unfolding refine_of
-  refined_not_refused t m = passes
+  pub refined_not_refused : (t : Transform) (m : Float) → number_of (refine_of bits w h c v.0 t m) ≡ 0
+  unfolding refine_of alignment_refusal
+  refined_not_refused t m = number_checked (alignment_checks (length bits) w h v.0) _ ∙ passes
 
 -- ---- of a picture that isn't refused, the two calls agree
 found_passed : (bits : List ℕ) (w h : ℕ) → find_refusal bits w h ≡ 0 → bits_refusal (length bits) w h ≡ 0

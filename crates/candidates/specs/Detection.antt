@@ -2,6 +2,7 @@
 -- the rules of `build_detection` .. give none for its finders and the picture's bits"). In a call that isn't refused no step is (proofs/Theorems.antt).
 -- Document 02, N8: "Each detection carries its triple's score and mean module". Definitions only.
 use Rattle.std.specs.Prelude.{true, false, List, ℕ, Float, Option, Some, None}
+use Rattle.std.specs.Result.{result_unwrap_or}
 use Rattle.float.specs.Constants.{f0}
 use Rattle.transform.specs.declared.Transform.{Transform}
 use Rattle.transform.specs.Fit.{zero_transform, Plain}
@@ -9,8 +10,9 @@ use Rattle.geometry.specs.declared.Corners.{Corners}
 use Rattle.geometry.specs.Order.{zero_finder}
 use Rattle.geometry.specs.Score.{mean_of}
 use Rattle.geometry.specs.Estimate.{estimate_of}
-use Rattle.geometry.specs.Build.{built_of}
+use Rattle.geometry.specs.Build.{built_fit}
 use Rattle.alignment.specs.Alignment.{locate_of, refine_of}
+use Rattle.alignment.specs.declared.Refined.{Refined}
 use Rattle.candidates.specs.declared.Detection.{Detection}
 use Rattle.candidates.specs.declared.Built.{Built}
 use Rattle.transform.specs.declared.Point.{Point}
@@ -36,6 +38,10 @@ WithoutLens d = Plain d.transform
 abbrev pub none : Built
 none = record { found = false; detection = zero_detection }
 
+-- what a refused refinement leaves, and there is none in a call that is not refused
+abbrev pub unrefined : Refined
+unrefined = record { transform = zero_transform; marker = None }
+
 -- what is built by the transform, if there is one
 abbrev pub by_fit : Option Transform → (Transform → Built) → Built
 by_fit None build = none
@@ -49,18 +55,18 @@ module _ (bits : List ℕ) (w h : ℕ) (c : Corners) where
 
   -- the transform for version v through the finders and a marker, if there is one
   abbrev pub fit_with : Option Point → ℕ → Option Transform
-  fit_with m v = (built_of c m v).fit
+  fit_with m v = built_fit c m v
 
   -- the marker, looked for through the transform t
   abbrev pub marker_by : Transform → ℕ → Option Point
-  marker_by t v = (locate_of bits w h t v mean).marker
+  marker_by t v = result_unwrap_or (locate_of bits w h t v mean) None
 
   -- of a triple with the score s
   module _ (s : Float) where
     -- the detection, its transform and its marker refined once from the transform t, with the score and the mean module
     abbrev pub refined_from : Transform → ℕ → Built
     refined_from t v =
-        let r = refine_of bits w h c v t mean in
+        let r = result_unwrap_or (refine_of bits w h c v t mean) unrefined in
         record { found = true; detection = record { finders = c; marker = r.marker; version = record { 0 = v }; transform = r.transform; score = s; mean = mean } }
 
     -- for version v: a rough transform through the finders alone, the marker by it, and the transform through both

@@ -8,6 +8,7 @@ ghost use Rattle.candidates.specs.Detection.{none, build_with, build_of, zero_de
 ghost use Rattle.candidates.specs.Passing.{Within};
 ghost use Rattle.candidates.specs.Candidates.{corners_of, kept, detections_of, table_of, answered, from_answer, detect_answer, detect_first};
 
+use alignment::Refined;
 use finders::Finders;
 use geometry::{Corners, Finder};
 use lcr_core::version::Version;
@@ -90,15 +91,22 @@ fn build_with(bits: &[u8], width: u32, height: u32, c: Corners, score: f32, v: V
 {
     let mean = geometry::score::mean_module(c.tl, c.tr, c.bl);
     // Predict the marker by the finders alone, then look for it there.
-    let Some(rough) = geometry::build_transform(c, None, v).fit else {
+    let rough_build = geometry::build_transform(c, None, v);
+    let Some(rough) = rough_build.unwrap_or(None) else {
         return nothing_built();
     };
     let located = alignment::locate_alignment(bits, width, height, rough, v, mean);
-    let marker = located.marker;
-    let Some(transform) = geometry::build_transform(c, marker, v).fit else {
+    let marker = located.unwrap_or(None);
+    let build = geometry::build_transform(c, marker, v);
+    let Some(transform) = build.unwrap_or(None) else {
         return nothing_built();
     };
-    let refined = alignment::refine_alignment(bits, width, height, c, v, transform, mean);
+    let unrefined = Refined {
+        transform: Transform::zero(),
+        marker: None,
+    };
+    let refinement = alignment::refine_alignment(bits, width, height, c, v, transform, mean);
+    let refined = refinement.unwrap_or(unrefined);
     let last_marker = refined.marker;
     let last_transform = refined.transform;
     Built {

@@ -1,5 +1,5 @@
 -- The answers put together, from the values that the calls gave. Assumes nothing.
-use Rattle.std.specs.Prelude.{Some, None, Option, MatchOption, Ok, Err, Result}
+use Rattle.std.specs.Prelude.{Some, None, Option, MatchOption, Ok, Err}
 use mathlib.Core.Path.{◌≡◌, refl, sym, ap, ◌∙◌}
 use mathlib.Core.Bool.{Bool, true, false, cond, ◌||◌}
 use Prim.Native.Nat.{ℕ, ◌+◌, ◌≤◌, ◌<◌, min}
@@ -13,17 +13,13 @@ use Rattle.transform.specs.declared.Point.{Point}
 use Rattle.transform.specs.declared.Triangle.{Triangle}
 use Rattle.transform.specs.declared.Transform.{Transform}
 use Rattle.transform.specs.Fit.{quad_fit}
-use Rattle.lcr_core.specs.Outcome.{refusal_number, number_of, unless}
-use Rattle.lcr_core.proofs.Checks.{unless_error}
-use Rattle.lcr_core.specs.declared.Refusal.{Refusal}
 use Rattle.lcr_core.specs.declared.Refusal.TheVariants.{BadVersion}
-use Rattle.lcr_core.specs.Version.{valid, new_of, version_refusal, side_of}
+use Rattle.lcr_core.specs.Version.{valid, new_of, side_of}
 use Rattle.lcr_core.specs.declared.version.Version.{Version}
 use Rattle.geometry.specs.Order.{point}
 use Rattle.geometry.specs.Estimate.{side_in, nearest_version, estimate_of}
-use Rattle.geometry.specs.Build.{modules_of, pixels_of, affine_of, homography_of, or_else, no_fit, symbol_fit, built_of}
+use Rattle.geometry.specs.Build.{modules_of, pixels_of, affine_of, homography_of, or_else, symbol_fit}
 use Rattle.geometry.specs.declared.Corners.{Corners}
-use Rattle.geometry.specs.declared.Built.{Built}
 
 -- ---- the version
 module _ (side r : Float) (n : ℕ) (e : r ≡ round_of binary32 (over32 (minus32 side f21) f4)) (g : n ≡ to_unsigned 32 r) where
@@ -84,23 +80,9 @@ unfolding symbol_fit
 fit-missing c m v side f e s k = rw (e, k, s)
 
 -- a valid version is answered as it is
-same_version : (v : ℕ) (w : Version) → Ok w ≡ new_of v → w.0 ≡ v
+pub same_version : (v : ℕ) (w : Version) → Ok w ≡ new_of v → w.0 ≡ v
 same_version v w e = go (valid v) e
   where
     go : (b : Bool) → Ok w ≡ cond b (Ok (record { 0 = v })) (Err BadVersion) → w.0 ≡ v
     go true k = cc
     go false k = let z : ◌≡◌ {A = ℕ} 0 1 = cc in absurd (omega arith)
-
-module _ (c : Corners) (m : Option Point) (v : ℕ) (r : Result Version Refusal) (e : (r ≡ new_of v) × (number_of r ≡ version_refusal v)) where
-  pub built : (w : Version) (f : Option Transform) → r ≡ Ok w → f ≡ symbol_fit c m w.0 → ◌≡◌ {A = Built} (record { refusal = 0; fit = f }) (built_of c m v)
-  unfolding built_of
-  built w f h g =
-      let n : 0 ≡ version_refusal v = ap number_of (sym h) ∙ e.1 in
-      rw (← n, g, same_version v w (sym h ∙ e.0))
-
-  pub not_built : (n : ℕ) (x : Refusal) → r ≡ Err x → n ≡ refusal_number x → ◌≡◌ {A = Built} (record { refusal = n; fit = None }) (built_of c m v)
-  unfolding built_of
-  not_built n x h o =
-      let q : refusal_number x ≡ version_refusal v = ap number_of (sym h) ∙ e.1 in
-      let u : no_fit ≡ unless (version_refusal v) no_fit (symbol_fit c m v) = unless_error x _ _ _ q in
-      cc

@@ -18,9 +18,10 @@ use Rattle.geometry.specs.Estimate.{nearest_version}
 use Rattle.transform.specs.Fit.{Plain}
 use Rattle.transform.specs.declared.Transform.{Transform}
 use Rattle.transform.proofs.Theorems.{quad_plain, triangle_plain}
-use Rattle.lcr_core.specs.Version.{version_refusal, side_of}
-use Rattle.lcr_core.proofs.Checks.{either, unless_either}
-use Rattle.geometry.specs.Build.{affine_of, homography_of, or_else, symbol_fit, no_fit, built_of}
+use Rattle.lcr_core.specs.Version.{version_checks, side_of}
+use Rattle.lcr_core.proofs.Checks.{either}
+use Rattle.lcr_core.proofs.Answers.{checked_holds, either_or}
+use Rattle.geometry.specs.Build.{affine_of, homography_of, or_else, symbol_fit, built_of, built_fit}
 use Rattle.geometry.specs.declared.Finder.{Finder}
 use Rattle.geometry.specs.declared.Corners.{Corners}
 use Rattle.transform.specs.declared.Point.{Point}
@@ -119,6 +120,6 @@ module _ (c : Corners) where
       let g = affine_of c side in
       either PlainFit (ltb v 2) g (or_else h g) (affine_plain side) (else-plain h g (quad_plain _ _) (affine_plain side))
 
-  pub built_plain : (a : Option Point) (v : ℕ) → IfSome (built_of c a v).fit Plain
+  pub built_plain : (a : Option Point) (v : ℕ) → IfSome (built_fit c a v) Plain
   unfolding built_of
-  built_plain a v = unless_either PlainFit (version_refusal v) no_fit (symbol_fit c a v) tt (fit_plain a v)
+  built_plain a v = either_or PlainFit _ None (checked_holds PlainFit (version_checks v) (symbol_fit c a v) (fit_plain a v)) tt

@@ -1,18 +1,19 @@
 -- The transform from the finders and, from version 2 on, the alignment marker (`build_transform`). Document 01: "`build_transform`: 7", a version outside
--- 1 to 64, with every other field zero. Definitions only.
-use Rattle.std.specs.Prelude.{cond, ℕ, ltb, Float, Option, Some, None}
+-- 1 to 64. Definitions only.
+use Rattle.std.specs.Prelude.{cond, ℕ, ltb, Float, Option, Some, None, Result}
 use Rattle.std.specs.Option.{option_or}
+use Rattle.std.specs.Result.{result_unwrap_or}
 use Rattle.float.specs.Steps.{minus32, whole32}
 use Rattle.float.specs.Constants.{f3_5, f6_5}
 use Rattle.transform.specs.Fit.{quad_fit, triangle_fit}
 use Rattle.transform.specs.declared.Point.{Point}
 use Rattle.transform.specs.declared.Triangle.{Triangle}
 use Rattle.transform.specs.declared.Transform.{Transform}
-use Rattle.lcr_core.specs.Outcome.{unless}
-use Rattle.lcr_core.specs.Version.{version_refusal, side_of}
+use Rattle.lcr_core.specs.Answer.{checked}
+use Rattle.lcr_core.specs.declared.Refusal.{Refusal}
+use Rattle.lcr_core.specs.Version.{version_checks, side_of}
 use Rattle.geometry.specs.Order.{point, centre_of}
 use Rattle.geometry.specs.declared.Corners.{Corners}
-use Rattle.geometry.specs.declared.Built.{Built}
 
 -- the finders' centres in modules, 3.5 from the sides, and in pixels
 unfoldable pub modules_of : Float → Triangle
@@ -43,10 +44,10 @@ symbol_fit c (Some a) v =
     let side = whole32 (side_of v) in
     cond (ltb v 2) (affine_of c side) (or_else (homography_of c a side) (affine_of c side))
 
--- none, as a refusal leaves it
-abbrev pub no_fit : Option Transform
-no_fit = None
-
 -- `build_transform`
-unfoldable pub built_of : Corners → Option Point → ℕ → Built
-built_of c marker v = let n = version_refusal v in record { refusal = n; fit = unless n no_fit (symbol_fit c marker v) }
+unfoldable pub built_of : Corners → Option Point → ℕ → Result (Option Transform) Refusal
+built_of c marker v = checked (version_checks v) (symbol_fit c marker v)
+
+-- the transform that it answers, if it answers one
+abbrev pub built_fit : Corners → Option Point → ℕ → Option Transform
+built_fit c marker v = result_unwrap_or (built_of c marker v) None

@@ -6,6 +6,7 @@ ghost use Rattle.geometry.specs.Order.{zero_finder, span_of, span2_of, is_longes
 ghost use Rattle.geometry.specs.Estimate.{edge_of, side_in, nearest_version, estimate_of};
 ghost use Rattle.geometry.specs.Build.{modules_of, pixels_of, affine_of, homography_of, symbol_fit, built_of};
 
+use lcr_core::Refusal;
 use lcr_core::version::Version;
 use transform::{Point, Quad, Transform, Triangle};
 
@@ -26,13 +27,6 @@ pub struct Corners {
     pub tl: Finder,
     pub tr: Finder,
     pub bl: Finder,
-}
-
-// A transform or none, or a refusal, and then none.
-#[derive(Clone, Copy)]
-pub struct Built {
-    pub refusal: u8,
-    pub fit: Option<Transform>,
 }
 
 impl Finder {
@@ -228,17 +222,13 @@ fn symbol_fit(c: Corners, marker: Option<Point>, v: Version) -> Option<Transform
 }
 
 // The map from the symbol's modules to pixels, or none; refused for a version outside 1 to 64.
-pub fn build_transform(c: Corners, marker: Option<Point>, version: Version) -> Built
+pub fn build_transform(
+    c: Corners,
+    marker: Option<Point>,
+    version: Version,
+) -> Result<Option<Transform>, Refusal>
     ensures { result ≡ built_of c marker version.0 }
 {
-    match Version::new(version.0) {
-        Ok(v) => Built {
-            refusal: 0,
-            fit: symbol_fit(c, marker, v),
-        },
-        Err(refusal) => Built {
-            refusal: u8::from(refusal),
-            fit: None,
-        },
-    }
+    let v = Version::new(version.0)?;
+    Ok(symbol_fit(c, marker, v))
 }

@@ -4,7 +4,8 @@ use mathlib.Core.Bool.{Bool, cond, true, false}
 use Prim.Native.Nat.{ℕ, zero, suc}
 use native.Mathlib.Omega.{arith}
 use lib.Dec.{eqb}
-use Rattle.std.specs.Prelude.{List, [], ◌∷◌, Result, Ok, Err, IsErrAnd}
+use Rattle.std.specs.Prelude.{List, [], ◌∷◌, Result, Ok, Err, IsErrAnd, IfOk}
+use Rattle.std.specs.Result.{result_unwrap_or}
 use Rattle.lcr_core.specs.Outcome.{Check, refusal_number, number_of, first_of}
 use Rattle.lcr_core.specs.Answer.{checked}
 use Rattle.lcr_core.specs.declared.Refusal.{Refusal}
@@ -65,3 +66,17 @@ module _ {A : Type 0} where
   pub refused_by : (answer : Result A Refusal) (r : Refusal) → IsErrAnd answer (λ e. e ≡ r) → (cs : List Check) (x : A) → refusal_number r ≡ first_of cs → answer ≡ checked cs x
   refused_by (Ok y) r i cs x e = absurd i
   refused_by (Err s) r i cs x e = ap Err i ∙ checked_refused cs x r e
+
+  -- what holds of the value holds of the answer's
+  pub checked_holds : (P : A → Type 0) (cs : List Check) (x : A) → P x → IfOk (checked cs x) P
+  checked_holds P [] x p = p
+  checked_holds P (c ∷ cs) x p = go c.refuses (checked_holds P cs x p)
+    where
+      go : (b : Bool) → IfOk (checked cs x) P → IfOk (cond b (Err c.refusal) (checked cs x)) P
+      go true h = tt
+      go false h = h
+
+  -- and what holds of another holds of whichever of the two is taken
+  pub either_or : (P : A → Type 0) (answer : Result A Refusal) (other : A) → IfOk answer P → P other → P (result_unwrap_or answer other)
+  either_or P (Ok x) other p q = p
+  either_or P (Err r) other p q = q

@@ -118,8 +118,13 @@ fn marker_at(p: &[u8], at: u8) -> Option<Point> {
 fn build_transform(p: &[u8], out: &mut [u8]) -> usize {
     let version = little_endian::get::<u8>(p, 57);
     let b = geometry::build_transform(values::corners_at(p, 0), marker_at(p, 48), Version(version));
-    little_endian::put::<u8>(out, 0, b.refusal);
-    let fit = b.fit;
+    let fit = match b {
+        Ok(fit) => fit,
+        Err(refusal) => {
+            little_endian::put::<u8>(out, 0, u8::from(refusal));
+            None
+        }
+    };
     values::put_flag(out, 1, fit.is_some());
     values::put_transform(out, 2, fit.unwrap_or(Transform::zero()));
     66

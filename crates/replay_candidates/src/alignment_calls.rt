@@ -1,7 +1,7 @@
 // Records 64 to 67: the alignment marker.
+use lcr_core::Refusal;
 use lcr_core::version::Version;
 use record::{slices, values};
-use rows::Located;
 use transform::Point;
 
 // A flag, and where the marker is.
@@ -12,10 +12,12 @@ fn put_marker(out: &mut [u8], at: u8, m: Option<Point>) {
     }
 }
 
-fn put_located(out: &mut [u8], r: Located) -> usize {
-    little_endian::put::<u8>(out, 0, r.refusal);
-    let m = r.marker;
-    put_marker(out, 1, m);
+// The refusal's number, or the marker.
+fn put_located(out: &mut [u8], r: Result<Option<Point>, Refusal>) -> usize {
+    match r {
+        Ok(m) => put_marker(out, 1, m),
+        Err(refusal) => little_endian::put::<u8>(out, 0, u8::from(refusal)),
+    }
     10
 }
 
@@ -63,11 +65,15 @@ fn refine_alignment(p: &[u8], out: &mut [u8]) -> usize {
         values::lens_at(p, 57),
         values::float_at(p, 145),
     );
-    little_endian::put::<u8>(out, 0, r.refusal);
-    let t = r.transform;
-    values::put_lens(out, 1, t);
-    let m = r.marker;
-    put_marker(out, 89, m);
+    match r {
+        Ok(refined) => {
+            let t = refined.transform;
+            values::put_lens(out, 1, t);
+            let m = refined.marker;
+            put_marker(out, 89, m);
+        }
+        Err(refusal) => little_endian::put::<u8>(out, 0, u8::from(refusal)),
+    }
     98
 }
 

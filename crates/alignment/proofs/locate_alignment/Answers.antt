@@ -1,27 +1,18 @@
 -- `alignment::locate_alignment` meets its contract. Assumes nothing.
-use native.Mathlib.Omega.{arith}
-use mathlib.Core.Path.{sym, ◌∙◌}
-use Rattle.lcr_core.specs.Passed.{Sides}
-use Rattle.rows.proofs.Answers.{refused, done}
-use Rattle.alignment.proofs.Refusals.{passed}
-use Rattle.alignment.specs.Alignment.{locate_of}
-use Rattle.alignment.proofs.locate_alignment.Goals.{Else-refusal-ne0}
+use mathlib.Core.Path.{ap, ◌∙◌}
+use lib.ListN.{length}
+use Rattle.std.specs.Prelude.{Ok}
+use Rattle.lcr_core.proofs.Answers.{refused_by, checked_passed}
+use Rattle.alignment.specs.Alignment.{alignment_checks, alignment_refusal, locate_of}
 use Rattle.alignment.proofs.locate_alignment.Goals as goal
 
--- the sides of a picture that is not refused
-sides : (c : Else-refusal-ne0) → Sides c.args.width c.args.height
-sides c = passed _ _ _ _ (sym c.check-refusal.ensures ∙ c.if-refusal-ne0.false)
-
-pub returns-then-refusal-ne0 : goal.returns-then-refusal-ne0
-unfolding locate_of
-returns-then-refusal-ne0 c = refused _ _ _ c.if-refusal-ne0.true c.check-refusal.ensures
-
-pub overflow_cast-view : goal.overflow_cast-view
-overflow_cast-view c = omega (arith, sides c)
-
-pub overflow_cast-view-2 : goal.overflow_cast-view-2
-overflow_cast-view-2 c = omega (arith, sides c)
+pub returns-in_err-view : goal.returns-in_err-view
+unfolding locate_of alignment_refusal
+returns-in_err-view c = let a = c.args in refused_by _ _ c.from_residual.ensures.1 (alignment_checks (length a.bits.now) a.width a.height a.version.0) _ c.in_err-view.ensures.number
 
 pub returns : goal.returns
-unfolding locate_of
-returns c = done _ _ _ _ c.if-refusal-ne0.false c.check-refusal.ensures c.located-marker.ensures
+unfolding locate_of alignment_refusal
+returns c =
+    let a = c.args in
+    let q = c.in_ok-view.ensures.view in
+    ap Ok (rw (q.0, q.1, q.2, q.3, q.4) at c.located.ensures) ∙ checked_passed (alignment_checks (length a.bits.now) a.width a.height a.version.0) _ c.in_ok-view.ensures.number

@@ -1,27 +1,22 @@
 -- `alignment::refine_alignment` meets its contract. Assumes nothing.
-use native.Mathlib.Omega.{arith}
-use mathlib.Core.Path.{sym, ◌∙◌}
-use Rattle.lcr_core.specs.Passed.{Sides}
-use Rattle.alignment.proofs.Refusals.{passed}
-use Rattle.alignment.proofs.Refining.{refining_refused, refining_done}
-use Rattle.alignment.specs.Alignment.{refine_of}
-use Rattle.alignment.proofs.refine_alignment.Goals.{Else-refusal-ne0}
+use mathlib.Core.Path.{◌≡◌, ap, ◌∙◌}
+use lib.ListN.{length}
+use Rattle.std.specs.Prelude.{Ok}
+use Rattle.lcr_core.proofs.Answers.{refused_by, checked_passed}
+use Rattle.alignment.specs.Alignment.{alignment_checks, alignment_refusal, located_of, rebuilt_of, refine_of}
+use Rattle.alignment.proofs.Refining.{refined_same}
 use Rattle.alignment.proofs.refine_alignment.Goals as goal
 
--- the sides of a picture that is not refused
-sides : (c : Else-refusal-ne0) → Sides c.args.width c.args.height
-sides c = passed _ _ _ _ (sym c.check-refusal.ensures ∙ c.if-refusal-ne0.false)
-
-pub returns-then-refusal-ne0 : goal.returns-then-refusal-ne0
-unfolding refine_of
-returns-then-refusal-ne0 c = rw c.zero.ensures (refining_refused _ _ _ _ c.if-refusal-ne0.true c.check-refusal.ensures)
-
-pub overflow_cast-view : goal.overflow_cast-view
-overflow_cast-view c = omega (arith, sides c)
-
-pub overflow_cast-view-2 : goal.overflow_cast-view-2
-overflow_cast-view-2 c = omega (arith, sides c)
+pub returns-in_err-view : goal.returns-in_err-view
+unfolding refine_of alignment_refusal
+returns-in_err-view c = let a = c.args in refused_by _ _ c.from_residual.ensures.1 (alignment_checks (length a.bits.now) a.width a.height a.version.0) _ c.in_err-view.ensures.number
 
 pub returns : goal.returns
-unfolding refine_of
-returns c = refining_done _ _ _ _ _ _ c.if-refusal-ne0.false c.check-refusal.ensures (rw (← c.located-marker.ensures) c.rebuilt-transform.ensures) c.located-marker.ensures
+unfolding refine_of alignment_refusal
+returns c =
+    let a = c.args in
+    let q = c.in_ok-view.ensures.view in
+    let e = rw (q.0, q.1, q.2, q.3, q.4) at c.located-marker.ensures in
+    let m = located_of a.bits.now a.width a.height a.transform a.version.0 a.«module» in
+    let r : c.rebuilt-transform.result ≡ rebuilt_of a.corners m a.version.0 a.transform = rw (← e) c.rebuilt-transform.ensures in
+    ap Ok (refined_same _ _ _ m r e) ∙ checked_passed (alignment_checks (length a.bits.now) a.width a.height a.version.0) _ c.in_ok-view.ensures.number

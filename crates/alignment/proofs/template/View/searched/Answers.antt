@@ -5,4 +5,4 @@ use Rattle.alignment.proofs.template.View.searched.Goals as goal
 
 pub returns : goal.returns
 unfolding searched_of find_of
-returns c = rw (← c.centre-c.ensures, ← c.apply.ensures, c.find_alignment-found.ensures)
+returns c = rw (← c.centre-c.ensures, ← c.apply-predicted.ensures, ← c.find_alignment.ensures) c.unwrap_or.ensures
