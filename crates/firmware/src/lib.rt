@@ -46,8 +46,8 @@ fn put_transform(out: &mut [u8], at: u32, t: Transform)
     requires { at < 2 ^ 16 }
     ensures { out.new ≡ put (transform_bytes t) at out.old }
 {
-    for k in 0..8 {
-        put::<u64>(out, at + 8 * k as u32, t.m[k].bits());
+    for (k, x) in t.m.iter().enumerate() {
+        put::<u64>(out, at + 8 * k as u32, x.bits());
     }
 }
 
@@ -71,8 +71,7 @@ pub fn put_detections(out: &mut [u8], t: Detections)
     ensures { out.new ≡ put (firmware_bytes t) 0 out.old }
 {
     put::<u8>(out, 0, (t.count % 256) as u8);
-    for k in 0..3 {
-        let d = t.at[k];
-        put_detection(out, 1 + 122 * k as u32, d);
+    for (k, d) in t.at.iter().enumerate() {
+        put_detection(out, 1 + 122 * k as u32, *d);
     }
 }

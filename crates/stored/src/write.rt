@@ -31,8 +31,7 @@ fn put_places(out: &mut [u8], t: Finders)
     requires { t.count ≤ max_finders }
     ensures { out.new ≡ put (flat_map place_bytes (held_in t)) 6 out.old }
 {
-    for k in 0..t.count {
-        let f = t.table[k];
+    for (k, f) in t.table[..t.count].iter().enumerate() {
         put_pair(out, 6 + 8 * k as u32, f.x.bits(), f.y.bits());
     }
 }
@@ -41,8 +40,7 @@ fn put_sizes(out: &mut [u8], t: Finders)
     requires { t.count ≤ max_finders }
     ensures { out.new ≡ put (flat_map size_bytes (held_in t)) (6 + 8 * t.count) out.old }
 {
-    for k in 0..t.count {
-        let f = t.table[k];
+    for (k, f) in t.table[..t.count].iter().enumerate() {
         put_pair(
             out,
             6 + 8 * t.count as u32 + 8 * k as u32,

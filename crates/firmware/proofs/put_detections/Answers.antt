@@ -10,8 +10,8 @@ use Rattle.firmware.proofs.put_detections.Goals.{Start}
 use borrow.Author.Rules.{rules}
 use Rattle.firmware.proofs.put_detections.Goals as goal
 
-long : (c : Start) → length c.args.t.at ≡ 3
-long c = search rules
+three : (c : Start) → length c.args.t.at ≡ 3
+three c = search rules
 
 pub loop-k-init : goal.loop-k-init
 unfolding flat_map put
@@ -19,11 +19,12 @@ loop-k-init c = refl
 
 pub loop-k-preserved : goal.loop-k-preserved
 loop-k-preserved c =
-    let t = (goal.at.loop-k-preserved c).Start.args.t in
     let l = c.loop-k in
-    c.put_detection.ensures ∙ piece_more detection_bytes detection_size length_detection t.at 1 l.k _ c.put.new.s l.out (omega (arith, long (goal.at.loop-k-preserved c).Start)) l.invariant
+    c.put_detection.ensures ∙ piece_more detection_bytes detection_size length_detection c.args.t.at 1 l.k _ c.put.new.s l.out (omega (arith, three (goal.at.loop-k-preserved c).Start)) l.invariant
 
 pub returns : goal.returns
 returns c =
-    let s = (goal.at.returns c).Start in
-    c.loop-k.invariant ∙ ap (put (flat_map detection_bytes (take c.loop-k.k s.args.t.at)) 1) c.put.ensures ∙ whole_is s.args.t c.loop-k.k s.args.out.now (long (goal.at.returns c).Start) (omega (arith, c.loop-k-test.false))
+    let a = c.args in
+    let l = c.loop-k in
+    let n = three (goal.at.returns c).Start in
+    l.invariant ∙ ap (put (flat_map detection_bytes (take l.k a.t.at)) 1) c.put.ensures ∙ whole_is a.t l.k a.out.now n (omega (arith, n))

@@ -7,4 +7,4 @@ use Rattle.firmware.specs.Firmware.{detection_bytes}
 use Rattle.firmware.proofs.put_detections.Given as goal
 
 abbrev pub invariant-loop-k : goal.invariant-loop-k
-invariant-loop-k l = l.out ≡ put (flat_map detection_bytes (take l.k l.t.at)) 1 l.initial.out
+invariant-loop-k l = l.out ≡ put (flat_map detection_bytes (take l.k l.d-items)) 1 l.initial.out

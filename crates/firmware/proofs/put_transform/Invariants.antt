@@ -7,4 +7,4 @@ use Rattle.firmware.specs.Firmware.{double_bytes, numbers_of}
 use Rattle.firmware.proofs.put_transform.Given as goal
 
 abbrev pub invariant-loop-k : goal.invariant-loop-k
-invariant-loop-k l = l.out ≡ put (flat_map double_bytes (take l.k (numbers_of l.t))) l.at l.initial.out
+invariant-loop-k l = l.out ≡ put (flat_map double_bytes (take l.k (numbers_of l.fn.t))) l.at l.initial.out
