@@ -11,9 +11,12 @@ returns-in_err-check_denoised c =
     let r = c.in_err-check_denoised.ensures in
     record { number = same_number _ _ c.from_residual.ensures.1 ∙ r; written = unless_error _ _ _ _ r }
 
-pub denoise_bytes-requires : goal.denoise_bytes-requires
-denoise_bytes-requires c = passes _ _ _ _ (sym c.in_ok-check_denoised.ensures)
+pub invariant_of-picture : goal.invariant_of-picture
+invariant_of-picture c = let p = passes _ _ _ _ (sym c.in_ok-check_denoised.ensures) in record { sides = p.sides; bytes = p.bytes }
+
+pub denoise-requires : goal.denoise-requires
+denoise-requires c = (passes _ _ _ _ (sym c.in_ok-check_denoised.ensures)).fits
 
 pub returns : goal.returns
 unfolding denoised_written
-returns c = record { number = c.in_ok-check_denoised.ensures; written = c.denoise_bytes.ensures ∙ unless_done _ _ _ (sym c.in_ok-check_denoised.ensures) }
+returns c = record { number = c.in_ok-check_denoised.ensures; written = c.denoise.ensures ∙ unless_done _ _ _ (sym c.in_ok-check_denoised.ensures) }

@@ -2,10 +2,10 @@ use native.Mathlib.Omega.{arith}
 use Rattle.lists.proofs.Numbers.{mul_bound}
 use Rattle.lists.proofs.Tabulate.{filled_none, filled_step}
 use Rattle.image.proofs.Votes.{denoised_byte}
-use Rattle.image.proofs.denoise.denoise_bytes.Goals as goal
+use Rattle.image.proofs.denoise.Picture.denoise.Goals as goal
 
 pub loop-j-init : goal.loop-j-init
-loop-j-init c = (mul_bound _ _ 4096 4096 c.requires.sides.w_most c.requires.sides.h_most, c.first_rows-rows.ensures, filled_none _ _)
+loop-j-init c = (mul_bound _ _ 4096 4096 c.args.self.sides.w_most c.args.self.sides.h_most, c.first_rows-rows.ensures, filled_none _ _)
 
 pub loop-j-preserved : goal.loop-j-preserved
 loop-j-preserved c =

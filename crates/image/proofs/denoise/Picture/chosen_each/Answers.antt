@@ -5,12 +5,12 @@ use native.Mathlib.Omega.{arith}
 use Rattle.binary.specs.Binary.{word}
 use Rattle.image.specs.Denoise.{inside}
 use Rattle.image.proofs.Windows.{chosen_more}
-use Rattle.image.proofs.denoise.chosen_each.Goals.{Joined-is_inside, else-is_inside, then-is_inside}
-use Rattle.image.proofs.denoise.chosen_each.Goals as goal
+use Rattle.image.proofs.denoise.Picture.chosen_each.Goals.{Joined-is_inside, else-is_inside, then-is_inside}
+use Rattle.image.proofs.denoise.Picture.chosen_each.Goals as goal
 
 -- where the bit of a turn is taken from
 picked : (c : Joined-is_inside) → let a = c.args in let n = a.n + c.loop-i.i in
-    c.if-is_inside.from ≡ cond (inside a.w a.h (n % a.w) (n / a.w)) a.voted a.copied
+    c.if-is_inside.from ≡ cond (inside a.self.width a.self.height (n % a.self.width) (n / a.self.width)) a.voted a.copied
 picked c =
     let e = sym c.is_inside.ensures in
     elim c.if-is_inside.branch [ then-is_inside w ↦ w.from-is ∙ rw (e ∙ w.if-is_inside.true) | else-is_inside w ↦ w.from-is ∙ rw (e ∙ w.if-is_inside.false) ]
