@@ -107,6 +107,7 @@ pub fn put_lent(out: &mut [u8], at: u16, a: &[u8; LONGEST], p: &[u8], from: u32)
 }
 
 // The five slices of block values.
+// Five arrays and not one of five: a caller lends all five at once, and parts of one array that are lent together get no proof (tried).
 pub fn put_blocks(
     out: &mut [u8],
     at: u16,

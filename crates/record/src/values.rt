@@ -11,6 +11,7 @@ use float::Float;
 use geometry::{Corners, Finder};
 use transform::{Point, Transform};
 
+// Floats of both formats. Two functions and not one over both formats: it would have one line too, and three ghost members in each clause in place of the format.
 pub fn float_at(p: &[u8], at: u32) -> f32
     ensures { result ≡ float_at p.now at }
 {

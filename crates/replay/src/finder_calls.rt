@@ -17,16 +17,13 @@ fn find_finders(p: &[u8], out: &mut [u8]) -> usize {
 fn read_list(p: &[u8], out: &mut [u8]) -> usize {
     match stored::read_list(p) {
         Ok(list) => {
-            little_endian::put::<u8>(out, 0, 0);
             little_endian::put::<u32>(out, 1, list.width as u32);
             little_endian::put::<u32>(out, 5, list.height as u32);
             values::put_finders(out, 9, list.finders)
         }
         Err(refusal) => {
             little_endian::put::<u8>(out, 0, u8::from(refusal));
-            little_endian::put::<u32>(out, 1, 0);
-            little_endian::put::<u32>(out, 5, 0);
-            values::put_finders(out, 9, finders::no_finders())
+            10
         }
     }
 }

@@ -7,7 +7,6 @@ use lib.Seq.{take_all}
 use Rattle.lcr_core.proofs.Checks.{some_number}
 use Rattle.listing_text.proofs.Refusals.{passed, ready}
 use Rattle.listing_text.proofs.Listed.{listing_refused, listing_done}
-use Rattle.listing_text.specs.Listing.{listing_refusal}
 use Rattle.listing_text.proofs.put_listing.Goals as goal
 
 pub returns-in-Err : goal.returns-in-Err
