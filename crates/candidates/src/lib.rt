@@ -224,9 +224,13 @@ pub fn eight_in(t: Finders) -> Eight
 pub fn detect_candidates(bits: &[u8], width: u32, height: u32) -> Answer
     ensures { result ≡ detect_answer bits.now width height }
 {
-    let found = finders::find_finders(bits, width, height);
-    let t = found.finders;
-    answer_with(bits, width, height, found.refusal, eight_in(t))
+    match finders::find_finders(bits, width, height) {
+        Ok(found) => answer_with(bits, width, height, 0, eight_in(found)),
+        Err(refusal) => Answer {
+            refusal: u8::from(refusal),
+            detections: no_detections(),
+        },
+    }
 }
 
 // The first detection of a picture, if there is one.

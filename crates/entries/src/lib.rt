@@ -9,7 +9,7 @@ ghost use Rattle.image.specs.Gray.{gray_refusal, gray_written};
 ghost use Rattle.image.specs.Denoise.{denoised_refusal, denoised_written};
 ghost use Rattle.blocks.specs.Blocks.{mean_at, least_at, greatest_at, edge_at, near_at, blocks_after};
 ghost use Rattle.binarize.specs.Binarize.{binarize_refusal, dark_after};
-ghost use Rattle.finders.specs.Answer.{held_in, answer_of};
+ghost use Rattle.finders.specs.Answer.{held_in, finders_in, answer_of};
 ghost use Rattle.stored.specs.Stored.{stored_bytes};
 ghost use Rattle.candidates.specs.Candidates.{detect_answer};
 ghost use Rattle.firmware.specs.Firmware.{firmware_bytes};
@@ -70,17 +70,13 @@ pub fn plate_denoised(bits: &[u8], width: u32, height: u32, denoised: &mut [u8])
 pub fn plate_finders(bits: &[u8], width: u32, height: u32, list: &mut [u8]) -> u8
     ensures number { result ≡ list_refusal (answer_of bits.now width height) width height (length list.old) }
     ensures list { list.new ≡ unless result list.old
-        (written (stored_bytes width height (held_in (answer_of bits.now width height).finders)) list.old) }
+        (written (stored_bytes width height (held_in (finders_in (answer_of bits.now width height)))) list.old) }
 {
-    let found = finders::find_finders(bits, width, height);
-    let n = found.refusal;
-    if n != 0 {
-        return n;
-    }
-    let held = found.finders;
-    let written = stored::write_list(held, width, height, list);
-    match written {
-        Ok(_) => 0,
+    match finders::find_finders(bits, width, height) {
+        Ok(found) => match stored::write_list(found, width, height, list) {
+            Ok(_) => 0,
+            Err(refusal) => u8::from(refusal),
+        },
         Err(refusal) => u8::from(refusal),
     }
 }

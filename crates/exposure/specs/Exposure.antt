@@ -1,13 +1,14 @@
 -- Other exposures of a gray picture. Document 02, N6: "add one whole number to every byte of a gray picture, none going below 0 or above 255, and the bits,
 -- the denoised bits, the finders, the detections and a refusal 6 are the same. This is stated of the chain on `Gray8` pictures, for pictures without any
 -- edge as well." Definitions only.
-use Rattle.std.specs.Prelude.{ℕ, ◌+◌, ◌-◌, ◌*◌, ◌≤◌, ◌<◌, ◌≡◌, List, [], map, length}
+use Rattle.std.specs.Prelude.{ℕ, ◌+◌, ◌-◌, ◌*◌, ◌≤◌, ◌<◌, ◌≡◌, List, [], map, length, Result}
 use Rattle.lists.specs.Lists.{Each}
 use Rattle.image.specs.Gray.{channels_of}
 use Rattle.image.specs.declared.PixelFormat.TheVariants.{Gray8}
 use Rattle.blocks.specs.Blocks.{at}
 use Rattle.stages.specs.Pictures.{bit_picture, denoised_picture, edge_marks, near_marks, bits_after, denoised_after}
-use Rattle.finders.specs.declared.Found.{Found}
+use Rattle.lcr_core.specs.declared.Refusal.{Refusal}
+use Rattle.finders.specs.declared.Finders.{Finders}
 use Rattle.finders.specs.Answer.{answer_of}
 use Rattle.candidates.specs.declared.Answer.{Answer}
 use Rattle.candidates.specs.Candidates.{answered}
@@ -44,14 +45,14 @@ pub record Fix : Type 0 where
   pub answer : Answer
   pub bits : List ℕ
   pub denoised : List ℕ
-  pub finders : Found
+  pub finders : Result Finders Refusal
 
 -- `plate_chain` (chain/src/entry.rt), and the same finders
 pub record EntryFix : Type 0 where
   pub number : ℕ
   pub bits : List ℕ
   pub denoised : List ℕ
-  pub finders : Found
+  pub finders : Result Finders Refusal
   pub detections : List ℕ
 
 -- the format byte of gray pictures

@@ -1,19 +1,19 @@
 -- What the searched table says of the answer, and the refusals. Assumes nothing.
-use Rattle.std.proofs.Common.{◌≡◌, ℕ, ◌+◌, ◌≤◌, Bool, true, false, cond, List, [], length, sym, ap, ◌∙◌, subst, arith}
+use Rattle.std.proofs.Common.{◌≡◌, ℕ, ◌+◌, ◌≤◌, true, false, List, [], length, sym, ap, ◌∙◌, subst, arith}
 use Rattle.std.specs.Prelude.{Result, Ok, Err, IsErrAnd}
-use Rattle.lcr_core.specs.Outcome.{refusal_number, zero_side, large_side, unless}
+use Rattle.lcr_core.specs.Outcome.{refusal_number, number_of}
 use Rattle.lcr_core.specs.declared.Refusal.{Refusal}
 use Rattle.lcr_core.specs.declared.Refusal.TheVariants.{FullTable}
-use Rattle.lcr_core.proofs.Checks.{some_number}
 use Rattle.lcr_core.specs.Passed.{Sides}
-use Rattle.binary.specs.Refusal.{short_bits, bits_refusal}
+use Rattle.lcr_core.proofs.Checks.{refused_first, passed_first}
+use Rattle.lcr_core.proofs.Answers.{number_checked, checked_passed, checked_refused, refused_by}
+use Rattle.binary.specs.Refusal.{bits_refusal}
 use Rattle.finders.specs.declared.Finders.{Finders}
-use Rattle.finders.specs.declared.Found.{Found}
 use Rattle.finders.specs.Held.{Held, held, over}
 use Rattle.finders.specs.Search.{max_finders, found}
 use Rattle.finders.specs.Rank.{ranked}
-use Rattle.finders.specs.Answer.{table_of, is_over, held_list, find_refusal, answer_of, held_in}
-use Rattle.finders.specs.Inner.{axis_most, Good, Fine, axis, refused, RanksAfter}
+use Rattle.finders.specs.Answer.{table_of, held_in, find_checks, find_refusal, finders_of, answer_after, answer_of}
+use Rattle.finders.specs.Inner.{axis_most, Good, Fine, axis, RanksAfter}
 use Rattle.finders.proofs.Tables.{fine_mono, good_of, good_mono}
 use Rattle.finders.proofs.Axes.{axis_fine, axis_over, found_is}
 
@@ -70,32 +70,35 @@ pub six_after : (answer : Result Finders Refusal) (r : Refusal) (s : Held) → I
 six_after (Ok x) r s i f o = absurd i
 six_after (Err e) r s i f o = subst (λ z. RanksAfter z (Err e)) (sym o) (ap Err (i ∙ f))
 
--- what the search answers, as `find_finders` does
-abbrev pub answered : Result Finders Refusal → Found
-answered (Ok t) = record { refusal = 0; finders = t }
-answered (Err e) = refused e
-
--- ---- the refusals
+-- ---- the answer
 module _ (bits : List ℕ) (width height : ℕ) where
-  pub refuse_is : (r : Refusal) → refusal_number r ≡ bits_refusal (length bits) width height → refused r ≡ answer_of bits width height
-  unfolding answer_of find_refusal bits_refusal
-  refuse_is r e = go (zero_side width height) (large_side width height) (short_bits (length bits) width height) (is_over (found bits width height)) (ranked (held_list (found bits width height))) (refusal_number r) e (some_number r)
-    where
-      go : (a b c o : Bool) (fs : List _) (n : ℕ) → n ≡ cond a 1 (cond b 2 (cond c 4 0)) → (n ≡ 0 → ⊥)
-          → ◌≡◌ {A = Found} (record { refusal = n; finders = table_of [] }) (record { refusal = cond a 1 (cond b 2 (cond c 4 (cond o 6 0))); finders = table_of (unless (cond a 1 (cond b 2 (cond c 4 (cond o 6 0)))) [] fs) })
-      go true b c o fs n e h = rw e
-      go false true c o fs n e h = rw e
-      go false false true o fs n e h = rw e
-      go false false false o fs n e h = absurd (h e)
+  -- a refusal before the search
+  pub refuse_is : (answer : Result Finders Refusal) (r : Refusal) → IsErrAnd answer (λ e. e ≡ r) → refusal_number r ≡ bits_refusal (length bits) width height → answer ≡ answer_of bits width height
+  unfolding answer_of bits_refusal
+  refuse_is answer r i e =
+      let cs = find_checks (length bits) width height (found bits width height) in
+      refused_by answer r i cs (table_of (finders_of bits width height)) (refused_first 3 cs r e)
 
-  pub accept : 0 ≡ bits_refusal (length bits) width height → (r : Result Finders Refusal) → RanksAfter (found bits width height) r → answered r ≡ answer_of bits width height
-  unfolding answer_of find_refusal bits_refusal
-  accept e r q = go (zero_side width height) (large_side width height) (short_bits (length bits) width height) (found bits width height) q (sym e)
+  -- what the search answers
+  pub accept : 0 ≡ bits_refusal (length bits) width height → (r : Result Finders Refusal) → RanksAfter (found bits width height) r → r ≡ answer_of bits width height
+  unfolding answer_of bits_refusal
+  accept e r q = go (found bits width height) q
     where
-      go : (a b c : Bool) (s : Held) → RanksAfter s r → ◌≡◌ {A = ℕ} (cond a 1 (cond b 2 (cond c 4 0))) 0
-          → answered r ≡ record { refusal = cond a 1 (cond b 2 (cond c 4 (cond (is_over s) 6 0))); finders = table_of (unless (cond a 1 (cond b 2 (cond c 4 (cond (is_over s) 6 0)))) [] (ranked (held_list s))) }
-      go true b c s q e = absurd (omega arith)
-      go false true c s q e = absurd (omega arith)
-      go false false true s q e = absurd (omega arith)
-      go false false false over q e = ap answered q
-      go false false false (held fs) q e = ap answered q
+      go : (s : Held) → RanksAfter s r → r ≡ answer_after (length bits) width height s
+      go over q = let cs = find_checks (length bits) width height over in q ∙ checked_refused cs (table_of []) FullTable (passed_first 3 cs e)
+      go (held fs) q = let cs = find_checks (length bits) width height (held fs) in q ∙ checked_passed cs (table_of (ranked fs)) (passed_first 3 cs e)
+
+  -- its number, and its finders
+  pub answer_number : number_of (answer_of bits width height) ≡ find_refusal bits width height
+  unfolding answer_of find_refusal
+  answer_number = number_checked (find_checks (length bits) width height (found bits width height)) (table_of (finders_of bits width height))
+
+  pub answer_table : (t : Finders) → Ok t ≡ answer_of bits width height → (find_refusal bits width height ≡ 0) × (t ≡ table_of (finders_of bits width height))
+  unfolding answer_of find_refusal
+  answer_table t e =
+      let n : 0 ≡ find_refusal bits width height = ap number_of e ∙ answer_number in
+      let x = checked_passed (find_checks (length bits) width height (found bits width height)) (table_of (finders_of bits width height)) n in
+      (sym n, cc (e, x))
+
+  pub answer_refusal : (r : Refusal) → Err r ≡ answer_of bits width height → refusal_number r ≡ find_refusal bits width height
+  answer_refusal r e = ap number_of e ∙ answer_number

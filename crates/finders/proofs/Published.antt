@@ -57,4 +57,4 @@ module _ (bits : List ℕ) (w h : ℕ) where
     -- `find_finders`
     pub uncut_answer : answer_of bits w h ≡ published_answer bits w h
     unfolding answer_of
-    uncut_answer = ap₂ answer_after uncut_refusal uncut_finders
+    uncut_answer = ap (answer_after (length bits) w h) uncut_found

@@ -3,13 +3,14 @@ use Rattle.std.proofs.Common.{◌≡◌, ℕ, suc, ◌+◌, ◌<◌, ◌≤◌, 
 use borrow.Author.Tests.{lt-leb}
 use Rattle.lists.specs.Lists.{Each, folded, those}
 use Rattle.lists.proofs.Filters.{each_map, those-none, those-append}
-use Rattle.lcr_core.specs.Outcome.{zero_side, large_side}
+use Rattle.lcr_core.specs.Outcome.{number_of, zero_side, large_side}
 use Rattle.binary.specs.Refusal.{short_bits, bits_refusal}
 use Rattle.geometry.specs.declared.Finder.{Finder}
 use Rattle.finders.specs.Held.{Sighting, Held, held, over, within, join, place, merge, merge_next}
 use Rattle.finders.specs.Search.{max_finders, sightings, found_by, found}
 use Rattle.finders.specs.Rank.{stays, insert, ranked}
 use Rattle.finders.specs.Answer.{is_over, find_refusal, answer_of}
+use Rattle.finders.proofs.Outcomes.{answer_number}
 use Rattle.finders.proofs.Tables.{over_stays}
 
 -- ---- 6: a hit is one too many if and only if it falls within no held finder while the table is full, for a table of any number of places
@@ -85,9 +86,9 @@ is_over_lem over e = refl
 is_over_lem (held fs) e = absurd (true≢false (sym e))
 
 -- of a picture: `find_finders` answers 6 only where it is not refused by 1, 2 or 4, and a confirmed hit falls within no held finder while 128 are held
-pub six_only_if : (bits : List ℕ) (w h : ℕ) → (answer_of bits w h).refusal ≡ 6 → (bits_refusal (length bits) w h ≡ 0) × Overflows max_finders [] (sightings bits w h)
-unfolding answer_of find_refusal bits_refusal found_by
-six_only_if bits w h e = go (zero_side w h) (large_side w h) (short_bits (length bits) w h) (is_over (found bits w h)) refl e
+pub six_only_if : (bits : List ℕ) (w h : ℕ) → number_of (answer_of bits w h) ≡ 6 → (bits_refusal (length bits) w h ≡ 0) × Overflows max_finders [] (sightings bits w h)
+unfolding find_refusal bits_refusal found_by
+six_only_if bits w h e = go (zero_side w h) (large_side w h) (short_bits (length bits) w h) (is_over (found bits w h)) refl (sym (answer_number bits w h) ∙ e)
   where
     go : (z l s o : Bool) → is_over (found bits w h) ≡ o → first z l s (cond o 6 0) ≡ 6
         → (first z l s 0 ≡ 0) × Overflows max_finders [] (sightings bits w h)
@@ -98,9 +99,11 @@ six_only_if bits w h e = go (zero_side w h) (large_side w h) (short_bits (length
     go false false false false p q = absurd (omega arith)
 
 -- and wherever this is so
-pub six_if : (bits : List ℕ) (w h : ℕ) → bits_refusal (length bits) w h ≡ 0 → Overflows max_finders [] (sightings bits w h) → (answer_of bits w h).refusal ≡ 6
-unfolding answer_of find_refusal bits_refusal found_by
-six_if bits w h e o = go (zero_side w h) (large_side w h) (short_bits (length bits) w h) (found bits w h) (over_if max_finders [] (sightings bits w h) (omega arith) o) e
+pub six_if : (bits : List ℕ) (w h : ℕ) → bits_refusal (length bits) w h ≡ 0 → Overflows max_finders [] (sightings bits w h) → number_of (answer_of bits w h) ≡ 6
+unfolding find_refusal bits_refusal found_by
+six_if bits w h e o =
+    answer_number bits w h
+    ∙ go (zero_side w h) (large_side w h) (short_bits (length bits) w h) (found bits w h) (over_if max_finders [] (sightings bits w h) (omega arith) o) e
   where
     go : (z l s : Bool) (f : Held) → f ≡ over → first z l s 0 ≡ 0 → first z l s (cond (is_over f) 6 0) ≡ 6
     go true l s f p q = absurd (omega arith)

@@ -1,8 +1,10 @@
 -- `find_finders` (document 01, "The eight refusal numbers": 1, 2, 4, "then 6, given if and only if a confirmed hit falls within no held finder while 128
 -- are held"; "A refusal gives its number with every other field zero"). Definitions only.
-use Rattle.std.specs.Prelude.{ℕ, Bool, true, false, List, [], ◌∷◌, ◌++◌, length, take}
+use Rattle.std.specs.Prelude.{ℕ, Bool, true, false, List, [], ◌∷◌, ◌++◌, length, take, Result, Ok, Err}
 use Rattle.lists.specs.Lists.{padded}
-use Rattle.lcr_core.specs.Outcome.{first_of, unless}
+use Rattle.lcr_core.specs.Outcome.{Check, first_of}
+use Rattle.lcr_core.specs.Answer.{checked}
+use Rattle.lcr_core.specs.declared.Refusal.{Refusal}
 use Rattle.lcr_core.specs.declared.Refusal.TheVariants.{FullTable}
 use Rattle.binary.specs.Refusal.{bits_checks}
 use Rattle.finders.specs.Held.{Held, held, over}
@@ -11,7 +13,6 @@ use Rattle.finders.specs.Rank.{ranked}
 use Rattle.geometry.specs.declared.Finder.{Finder}
 use Rattle.geometry.specs.Order.{zero_finder}
 use Rattle.finders.specs.declared.Finders.{Finders}
-use Rattle.finders.specs.declared.Found.{Found}
 
 -- a table that holds a list: zero beyond the count
 abbrev pub table_of : List Finder → Finders
@@ -32,8 +33,12 @@ held_list over = []
 held_list (held fs) = fs
 
 -- 1, 2, 4 and 6, in this order, where a search of a picture of len bytes ends with s
+abbrev pub find_checks : ℕ → ℕ → ℕ → Held → List Check
+find_checks len width height s = bits_checks len width height ++ (record { refuses = is_over s; refusal = FullTable } ∷ [])
+
+-- the number of the first that refuses
 abbrev pub refusal_after : ℕ → ℕ → ℕ → Held → ℕ
-refusal_after len width height s = first_of (bits_checks len width height ++ (record { refuses = is_over s; refusal = FullTable } ∷ []))
+refusal_after len width height s = first_of (find_checks len width height s)
 
 unfoldable pub find_refusal : List ℕ → ℕ → ℕ → ℕ
 find_refusal bits width height = refusal_after (length bits) width height (found bits width height)
@@ -45,10 +50,15 @@ finders_after s = ranked (held_list s)
 abbrev pub finders_of : List ℕ → ℕ → ℕ → List Finder
 finders_of bits width height = finders_after (found bits width height)
 
--- a refusal's number and no finder, or 0 and the finders
-abbrev pub answer_after : ℕ → List Finder → Found
-answer_after n fs = record { refusal = n; finders = table_of (unless n [] fs) }
+-- the first refusal, or else the finders
+abbrev pub answer_after : ℕ → ℕ → ℕ → Held → Result Finders Refusal
+answer_after len width height s = checked (find_checks len width height s) (table_of (finders_after s))
 
 -- `find_finders`
-unfoldable pub answer_of : List ℕ → ℕ → ℕ → Found
-answer_of bits width height = answer_after (find_refusal bits width height) (finders_of bits width height)
+unfoldable pub answer_of : List ℕ → ℕ → ℕ → Result Finders Refusal
+answer_of bits width height = answer_after (length bits) width height (found bits width height)
+
+-- the finders of an answer, none after a refusal
+abbrev pub finders_in : Result Finders Refusal → Finders
+finders_in (Ok finders) = finders
+finders_in (Err refusal) = table_of []

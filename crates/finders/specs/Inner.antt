@@ -2,7 +2,7 @@
 use Rattle.std.specs.Prelude.{◌≡◌, ℕ, zero, suc, ◌+◌, ◌-◌, ◌*◌, ◌/◌, ◌<◌, ◌≤◌, Bool, true, false, cond, List, [], ◌∷◌, length, nat_lt, Option, Some, None, Result, Ok, Err, MatchResult}
 use Rattle.std.specs.Bool.{⊤}
 use Rattle.lists.specs.Lists.{Each, range, folded, first_where, flat_map}
-use Rattle.lcr_core.specs.Outcome.{refusal_number, max_side}
+use Rattle.lcr_core.specs.Outcome.{max_side}
 use Rattle.lcr_core.specs.declared.Refusal.{Refusal}
 use Rattle.lcr_core.specs.declared.Refusal.TheVariants.{FullTable}
 use Rattle.binary.specs.Line.{pixel}
@@ -13,7 +13,6 @@ use Rattle.finders.specs.Rank.{insert, stays, ranked}
 use Rattle.finders.specs.Answer.{table_of, held_in}
 use Rattle.geometry.specs.declared.Finder.{Finder}
 use Rattle.finders.specs.declared.Finders.{Finders}
-use Rattle.finders.specs.declared.Found.{Found}
 use Rattle.finders.specs.declared.search.Line.{Line}
 use Rattle.finders.specs.declared.search.Window.{Window}
 use Rattle.finders.specs.declared.search.NextHit.{NextHit}
@@ -111,9 +110,6 @@ abbrev pub keep : List Finder → Finder → List Finder
 keep fs f = cond (stays f) (insert fs f) fs
 
 -- ---- the answer
-abbrev pub refused : Refusal → Found
-refused r = record { refusal = refusal_number r; finders = table_of [] }
-
 -- what the search ends with: the finders held at its end, ranked, or refusal 6
 abbrev pub RanksAfter : Held → Result Finders Refusal → Type 0
 RanksAfter over r = r ≡ Err FullTable

@@ -1,7 +1,8 @@
 -- The search as document 000 has it, where the runs of a confirmation are taken as counted, however they ended (document 02, N7: "equality with the Rust is
 -- then for pictures where no hit that it confirms has a run ended by the limit"): what the theorems on equality speak of, and no contract does.
 -- Definitions only.
-use Rattle.std.specs.Prelude.{◌≡◌, ℕ, ◌*◌, ◌<◌, Bool, true, false, List, length, Some}
+use Rattle.std.specs.Prelude.{◌≡◌, ℕ, ◌*◌, ◌<◌, Bool, true, false, List, length, Some, Result}
+use Rattle.lcr_core.specs.declared.Refusal.{Refusal}
 use Rattle.lists.specs.Lists.{Each}
 use Rattle.binary.specs.Line.{row, column}
 use Rattle.confirm.specs.Confirm.{counted_of}
@@ -12,7 +13,7 @@ use Rattle.finders.specs.Hits.{Hit, line_hits}
 use Rattle.finders.specs.Held.{Sighting}
 use Rattle.finders.specs.Search.{sightings_by, found_by}
 use Rattle.finders.specs.Answer.{refusal_after, finders_after, answer_after}
-use Rattle.finders.specs.declared.Found.{Found}
+use Rattle.finders.specs.declared.Finders.{Finders}
 
 -- document 000's confirmed hits, finders and answer; the sides' limit and that of the table are document 01's
 abbrev pub published_sightings : List ℕ → ℕ → ℕ → List Sighting
@@ -24,8 +25,8 @@ published_finders bits width height = finders_after (found_by counted_of bits wi
 abbrev pub published_refusal : List ℕ → ℕ → ℕ → ℕ
 published_refusal bits width height = refusal_after (length bits) width height (found_by counted_of bits width height)
 
-abbrev pub published_answer : List ℕ → ℕ → ℕ → Found
-published_answer bits width height = answer_after (published_refusal bits width height) (published_finders bits width height)
+abbrev pub published_answer : List ℕ → ℕ → ℕ → Result Finders Refusal
+published_answer bits width height = answer_after (length bits) width height (found_by counted_of bits width height)
 
 -- of a picture
 module _ (bits : List ℕ) (width height : ℕ) where

@@ -5,7 +5,7 @@ ghost use Rattle.std.specs.Prelude.{◌≡◌, []};
 ghost use Rattle.lcr_core.specs.Passed.{Sides};
 ghost use Rattle.finders.specs.Search.{found};
 ghost use Rattle.finders.specs.Answer.{table_of, answer_of};
-ghost use Rattle.finders.specs.Inner.{refused, RanksAfter};
+ghost use Rattle.finders.specs.Inner.{RanksAfter};
 
 use geometry::Finder;
 use lcr_core::Refusal;
@@ -25,13 +25,6 @@ pub struct Finders {
     pub table: [Finder; MAX_FINDERS],
 }
 
-// Refusal 0 with the finders, or a refusal with none.
-#[derive(Clone, Copy)]
-pub struct Found {
-    pub refusal: u8,
-    pub finders: Finders,
-}
-
 pub fn no_finders() -> Finders
     ensures { result ≡ table_of [] }
 {
@@ -39,16 +32,6 @@ pub fn no_finders() -> Finders
     Finders {
         count: 0,
         table: [zero; MAX_FINDERS],
-    }
-}
-
-fn refuse(refusal: Refusal) -> Found
-    ensures { result ≡ refused refusal }
-{
-    let none = no_finders();
-    Found {
-        refusal: u8::from(refusal),
-        finders: none,
     }
 }
 
@@ -63,17 +46,9 @@ fn searched(bits: &[u8], width: u16, height: u16) -> Result<Finders, Refusal>
 }
 
 // The finders of a picture, those with most confirmations first, or a refusal: 1, 2, 4 or 6.
-pub fn find_finders(bits: &[u8], width: u32, height: u32) -> Found
+pub fn find_finders(bits: &[u8], width: u32, height: u32) -> Result<Finders, Refusal>
     ensures { result ≡ answer_of bits.now width height }
 {
-    if let Err(refusal) = binary::refusal::check_bits(bits.len(), width, height) {
-        return refuse(refusal);
-    }
-    match searched(bits, width as u16, height as u16) {
-        Ok(finders) => Found {
-            refusal: 0,
-            finders,
-        },
-        Err(refusal) => refuse(refusal),
-    }
+    binary::refusal::check_bits(bits.len(), width, height)?;
+    searched(bits, width as u16, height as u16)
 }

@@ -9,13 +9,15 @@ use borrow.Author.Tests.{lt-ltb, le-ltb}
 use Rattle.lists.specs.Lists.{flat_map}
 use Rattle.lists.proofs.Padded.{take-padded}
 use Rattle.binary.specs.Binary.{bytes_of}
-use Rattle.lcr_core.specs.Outcome.{unless}
-use Rattle.lcr_core.proofs.Checks.{unless-refused, unless_done}
+use Rattle.lcr_core.specs.Outcome.{refusal_number, unless}
+use Rattle.lcr_core.specs.declared.Refusal.{Refusal}
+use Rattle.std.specs.Prelude.{Ok, Err}
+use Rattle.lcr_core.proofs.Checks.{some_number, unless-refused, unless_done}
 use Rattle.little_endian.proofs.Round.{put_front}
 use Rattle.geometry.specs.declared.Finder.{Finder}
 use Rattle.geometry.specs.Order.{zero_finder}
 use Rattle.finders.specs.declared.Finders.{Finders}
-use Rattle.finders.specs.declared.Found.{Found}
+use Rattle.finders.proofs.Outcomes.{answer_table, answer_refusal}
 use Rattle.finders.specs.Search.{max_finders}
 use Rattle.finders.specs.Answer.{held_in, find_refusal, finders_of, answer_of, table_of as finders_table}
 use Rattle.ranking.specs.declared.Eight.{Eight}
@@ -76,36 +78,33 @@ module _ (bits : List ℕ) (w h : ℕ) where
       let fs = finders_of bits w h in
       sym (unless_done n (refused_line n) (list_text w h fs (detections_in (detect_answer bits w h).detections)) z) ∙ ap (list_text w h fs) (answer_holds z)
 
-  module _ (f : Found) (e : f ≡ answer_of bits w h) where
-    number : f.refusal ≡ find_refusal bits w h
-    unfolding answer_of
-    number = ap (λ (f : Found). f.refusal) e
+  pub found-refused : (refusal : Refusal) (n r : ℕ) (a b : List ℕ) → Err refusal ≡ answer_of bits w h → n ≡ refusal_number refusal → Wrote (refused_line n) 0 a r b
+      → Wrote (found_text bits w h) 0 a r b
+  found-refused refusal n r a b e q p =
+      let z = answer_refusal bits w h refusal e in
+      wrote_as (refused_line n) (found_text bits w h) 0 r a b (ap refused_line (q ∙ z) ∙ sym (text_refused (λ i. some_number refusal (z ∙ i)))) p
 
-    pub found-refused : (r : ℕ) (a b : List ℕ) → (f.refusal ≡ 0 → ⊥) → Wrote (refused_line f.refusal) 0 a r b → Wrote (found_text bits w h) 0 a r b
-    found-refused r a b z p = wrote_as (refused_line f.refusal) (found_text bits w h) 0 r a b (ap refused_line number ∙ sym (text_refused (λ i. z (number ∙ i)))) p
+  module _ (f : Finders) (e : Ok f ≡ answer_of bits w h) where
+    none : find_refusal bits w h ≡ 0
+    none = (answer_table bits w h f e).0
 
-    module _ (z : f.refusal ≡ 0) where
-      none : find_refusal bits w h ≡ 0
-      none = sym number ∙ z
+    found_table : f ≡ finders_table (finders_of bits w h)
+    found_table = (answer_table bits w h f e).1
 
-      found_table : f.finders ≡ finders_table (finders_of bits w h)
-      unfolding answer_of
-      found_table = ap (λ (f : Found). f.finders) e ∙ ap finders_table (sym (unless_done (find_refusal bits w h) [] (finders_of bits w h) none))
+    detected : (t : Eight) (x : Answer) → ((gs : List Finder) → f ≡ finders_table gs → t ≡ eight_of gs) → x ≡ from_answer bits w h (in_use t) → x.detections ≡ table_of (detections_of bits w h (finders_of bits w h))
+    unfolding detect_answer
+    detected t x k g =
+        let n = find_refusal bits w h in
+        let fs = finders_of bits w h in
+        let y : x ≡ detect_answer bits w h = g ∙ from-eight bits w h fs t (k fs found_table) ∙ sym (same_answer bits w h none) in
+        ap (λ (x : Answer). x.detections) y ∙ ap table_of (sym (unless_done n [] (detections_of bits w h fs) none))
 
-      detected : (t : Eight) (x : Answer) → ((gs : List Finder) → f.finders ≡ finders_table gs → t ≡ eight_of gs) → x ≡ from_answer bits w h (in_use t) → x.detections ≡ table_of (detections_of bits w h (finders_of bits w h))
-      unfolding detect_answer
-      detected t x k g =
-          let n = find_refusal bits w h in
-          let fs = finders_of bits w h in
-          let y : x ≡ detect_answer bits w h = g ∙ from-eight bits w h fs t (k fs found_table) ∙ sym (same_answer bits w h none) in
-          ap (λ (x : Answer). x.detections) y ∙ ap table_of (sym (unless_done n [] (detections_of bits w h fs) none))
-
-      pub found_listed : (t : Eight) (x : Answer) (r : ℕ) (a b : List ℕ) → ((gs : List Finder) → f.finders ≡ finders_table gs → t ≡ eight_of gs) → x ≡ from_answer bits w h (in_use t)
-          → ((fs : List Finder) (ds : List Detection) → f.finders ≡ finders_table fs → x.detections ≡ table_of ds → Wrote (list_text w h fs ds) 0 a r b) → Wrote (found_text bits w h) 0 a r b
-      found_listed t x r a b k g p =
-          let fs = finders_of bits w h in
-          let ds = detections_of bits w h fs in
-          wrote_as (list_text w h fs ds) (found_text bits w h) 0 r a b (sym (text_listed none)) (p fs ds found_table (detected t x k g))
+    pub found_listed : (t : Eight) (x : Answer) (r : ℕ) (a b : List ℕ) → ((gs : List Finder) → f ≡ finders_table gs → t ≡ eight_of gs) → x ≡ from_answer bits w h (in_use t)
+        → ((fs : List Finder) (ds : List Detection) → f ≡ finders_table fs → x.detections ≡ table_of ds → Wrote (list_text w h fs ds) 0 a r b) → Wrote (found_text bits w h) 0 a r b
+    found_listed t x r a b k g p =
+        let fs = finders_of bits w h in
+        let ds = detections_of bits w h fs in
+        wrote_as (list_text w h fs ds) (found_text bits w h) 0 r a b (sym (text_listed none)) (p fs ds found_table (detected t x k g))
 
 -- ---- the picture
 -- what stands behind a picture's bits is not read

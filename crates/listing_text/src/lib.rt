@@ -48,15 +48,13 @@ fn put_found(bits: &[u8], width: u32, height: u32, text: &mut [u8]) -> u32
     ensures text { Wrote (found_text bits.now width height) 0 text.old result text.new }
     ensures most { result ≤ listing_room }
 {
-    let found = finders::find_finders(bits, width, height);
-    let refusal = found.refusal;
-    if refusal != 0 {
-        return put_refusal(text, refusal);
+    match finders::find_finders(bits, width, height) {
+        Ok(found) => {
+            let answer = candidates::candidates_in(bits, width, height, eight_in(found));
+            put_list(text, width, height, found, answer.detections)
+        }
+        Err(refusal) => put_refusal(text, u8::from(refusal)),
     }
-    let all = found.finders;
-    let answer = candidates::candidates_in(bits, width, height, eight_in(all));
-    let detected = answer.detections;
-    put_list(text, width, height, all, detected)
 }
 
 // The text of a gray picture that passed the checks, so that the stages don't refuse it.

@@ -4,14 +4,21 @@ use binary::line::{End, Run};
 use record::{slices, values};
 
 fn find_finders(p: &[u8], out: &mut [u8]) -> usize {
-    let r = finders::find_finders(
+    let answer = finders::find_finders(
         slices::rest(p, 8),
         little_endian::get::<u32>(p, 0),
         little_endian::get::<u32>(p, 4),
     );
-    little_endian::put::<u8>(out, 0, r.refusal);
-    let t = r.finders;
-    values::put_finders(out, 1, t)
+    match answer {
+        Ok(found) => {
+            little_endian::put::<u8>(out, 0, 0);
+            values::put_finders(out, 1, found)
+        }
+        Err(refusal) => {
+            little_endian::put::<u8>(out, 0, u8::from(refusal));
+            values::put_finders(out, 1, finders::no_finders())
+        }
+    }
 }
 
 fn read_list(p: &[u8], out: &mut [u8]) -> usize {

@@ -1,23 +1,24 @@
 -- `entries::plate_finders` meets its contract. Assumes nothing.
 use mathlib.Core.Path.{sym, ap, ◌∙◌}
 use Rattle.lcr_core.specs.Outcome.{number_of}
-use Rattle.lcr_core.proofs.Checks.{unless-refused}
+use Rattle.lcr_core.proofs.Checks.{unless_error}
 use Rattle.entries.proofs.Lists.{list_refused, list_written}
 use Rattle.entries.proofs.plate_finders.Goals as goal
 
-pub returns-then-n-ne0 : goal.returns-then-n-ne0
-returns-then-n-ne0 c = record { number = list_refused _ _ _ _ _ c.find_finders-found.ensures c.if-n-ne0.true; list = unless-refused _ _ _ c.if-n-ne0.true }
+pub returns-in-Ok-write_list : goal.returns-in-Ok-write_list
+returns-in-Ok-write_list c =
+    let e = c.in-Ok.ensures in
+    let s = c.write_list.ensures in
+    let n = ap number_of c.in-Ok-write_list.is in
+    record { number = list_written _ _ _ _ _ _ e (sym n ∙ s.refusal); list = rw (← e) (rw n at s.bytes) }
 
-pub returns-in-Ok : goal.returns-in-Ok
-returns-in-Ok c =
-    let e = c.find_finders-found.ensures in
-    let s = c.write_list-written.ensures in
-    let n = ap number_of c.in-Ok.is in
-    record { number = list_written _ _ _ _ _ e _ c.if-n-ne0.false (sym n ∙ s.refusal); list = rw (← e) (rw n at s.bytes) }
+pub returns-in-Err-write_list : goal.returns-in-Err-write_list
+returns-in-Err-write_list c =
+    let e = c.in-Ok.ensures in
+    let s = c.write_list.ensures in
+    let n = ap number_of c.in-Err-write_list.is ∙ sym c.from.ensures in
+    record { number = list_written _ _ _ _ _ _ e (sym n ∙ s.refusal); list = rw (← e, ← n) s.bytes }
 
 pub returns-in-Err : goal.returns-in-Err
 returns-in-Err c =
-    let e = c.find_finders-found.ensures in
-    let s = c.write_list-written.ensures in
-    let n = ap number_of c.in-Err.is ∙ sym c.from.ensures in
-    record { number = list_written _ _ _ _ _ e _ c.if-n-ne0.false (sym n ∙ s.refusal); list = rw (← e, ← n) s.bytes }
+    record { number = list_refused _ _ _ _ c.in-Err.refusal _ c.in-Err.ensures c.from.ensures; list = unless_error c.in-Err.refusal _ _ _ (sym c.from.ensures) }
