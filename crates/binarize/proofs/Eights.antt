@@ -2,13 +2,13 @@
 use mathlib.Core.Path.{◌≡◌, refl, sym, ap, ◌∙◌}
 use mathlib.Core.Bool.{Bool, true, false}
 use mathlib.Core.List.{List}
-use Prim.Native.Nat.{ℕ, ◌+◌, ◌*◌, ◌/◌, ◌%◌, ◌^◌, ◌<◌, ◌≤◌}
+use Prim.Native.Nat.{ℕ, ◌+◌, ◌*◌, ◌/◌, ◌%◌, ◌^◌, ◌<◌}
 use native.Mathlib.Nat.{mod-eq_of_lt, add_comm}
 use native.Mathlib.Numerals.{add-one}
 use native.Mathlib.Omega.{arith}
 use lib.ListN.{length, set}
 use lib.Dec.{ltb}
-use lib.Pow.{high, low, pow_mono}
+use lib.Pow.{high, low}
 use Rattle.lists.proofs.Tabulate.{filled_step}
 use Rattle.std.specs.Int.{from_bool}
 use Rattle.binary.specs.Binary.{bit, word, byte_of}
@@ -28,14 +28,6 @@ from_is false = refl
 pub word_next : (p : ℕ → Bool) (s i acc v : ℕ) → i < 8 → acc ≡ word p s i → v ≡ bit (p (s + i)) → acc % 128 * 2 + v ≡ word p s (i + 1)
 unfolding word
 word_next p s i acc v h e q = rw (e, q, word_low p s i h, add-one)
-
--- a small power of two, as the code makes it
-pub one_shifted : (s : ℕ) → s < 8 → (1 * 2 ^ s % 2 ^ 32 ≡ 2 ^ s) × (0 < 2 ^ s) × (2 ^ s ≤ 128)
-one_shifted s h =
-    let k : 2 ^ s ≤ 2 ^ 7 = pow_mono {i = s} {j = 7} (omega arith) in
-    let z : 2 ^ 0 ≤ 2 ^ s = pow_mono {i = 0} {j = s} (omega arith) in
-    let e : 1 * 2 ^ s ≡ 2 ^ s = omega arith in
-    (rw e (mod-eq_of_lt (omega arith)), omega arith, omega arith)
 
 module _ (p : ℕ → Bool) (n acc b : ℕ) (r : acc ≡ word p (n / 8 * 8) (n % 8)) (q : b ≡ word p n 8) where
   -- the pending bits and the eight pixels, cut after the first eight

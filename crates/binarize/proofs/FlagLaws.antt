@@ -13,7 +13,7 @@ use lib.Seq.{get_or-append-add, get_or-drop}
 use lib.Dec.{eqb, ltb}
 use borrow.Author.Tests.{eqb-true, ltb-true, ltb-false}
 use Rattle.lists.specs.Lists.{tabulate, filled}
-use Rattle.lists.proofs.Tabulate.{length-tabulate, length-filled, get_or-filled}
+use Rattle.lists.proofs.Tabulate.{length-tabulate, get_or-filled}
 use Rattle.lists.proofs.Filters.{those-none}
 use Rattle.blocks.specs.Blocks.{at, cells, about}
 use Rattle.blocks.proofs.Grids.{each_cells}
@@ -25,9 +25,6 @@ pub filled_rest : (n : ℕ) (f : ℕ → ℕ) (d l : List ℕ) → l ≡ filled 
 filled_rest n f d l q =
     let p : get_or (filled n f d) n 0 ≡ get_or (drop n d) 0 0 = subst (λ (k : ℕ). get_or (filled n f d) k 0 ≡ get_or (drop n d) 0 0) (add-zero _ ∙ length-tabulate n f) (get_or-append-add (tabulate n f) (drop n d) 0 0) in
     ap (λ (m : List ℕ). at m n) q ∙ p ∙ get_or-drop n d 0 0 ∙ ap (at d) (add-zero n)
-
-pub row-length : (w : ℕ) (f : ℕ → ℕ) (old new : List ℕ) → new ≡ filled w f old → w ≤ length old → length new ≡ length old
-row-length w f old new q h = ap length q ∙ length-filled w f old h
 
 -- where all from a on below b are zero, each is
 pub all_zero : (flags : List ℕ) (a b : ℕ) → b ≤ length flags → list_all (λ (f : ℕ). eqb f 0) (take (b - a) (drop a flags)) ≡ true

@@ -3,7 +3,7 @@ use mathlib.Core.Path.{◌≡◌, refl, sym, ap, ◌∙◌}
 use mathlib.Core.Bool.{Bool, true, false, cond, ◌||◌}
 use mathlib.Core.List.{List, [], ◌∷◌, map, append-nil}
 use Prim.Native.Nat.{ℕ, zero, suc, ◌+◌, ◌-◌, ◌*◌, ◌/◌, ◌%◌, ◌≤◌, ◌<◌}
-use native.Mathlib.Nat.{add-zero, mul-le-mul_right}
+use native.Mathlib.Nat.{add-zero}
 use native.Mathlib.Numerals.{add-one}
 use native.Mathlib.Omega.{arith}
 use lib.ListN.{length, take}
@@ -13,14 +13,11 @@ use Rattle.std.specs.Prelude.{Option, Some, None, unwrap_or}
 use Rattle.std.specs.List.{list_any}
 use Rattle.std.proofs.lemmas.List.Folds.{list_any_more}
 use Rattle.lists.specs.Lists.{count, range, flat_map, how_many}
-use Rattle.lists.proofs.Numbers.{mul_bound}
 use Rattle.lists.proofs.Filters.{how_many-append}
 use Rattle.lists.proofs.Folds.{range_more}
 use Rattle.blocks.specs.Blocks.{mean, at, cells, about}
-use Rattle.blocks.specs.declared.rect.Rect.{Rect}
-use Rattle.blocks.specs.Rects.{IsAbout}
 use Rattle.binarize.specs.Levels.{midway, level, first_level, marked, marked_means, any_marked, chosen, global_level, window, window_level}
-use Rattle.binarize.specs.Splits.{Tally, level_of, Tallied, InGrid}
+use Rattle.binarize.specs.Splits.{Tally, level_of, Tallied}
 
 -- ---- the level of a list of means
 
@@ -47,20 +44,7 @@ first_of_four a b c d other =
 first_of_one : (l : List ℕ) (other : ℕ) → first_level (l ∷ []) other ≡ unwrap_or (level_of l) other
 first_of_one l other = first_step l [] other
 
--- ---- windows within the grid
-
-pub in_grid : (len bw bh x y d : ℕ) (r : Rect) → bw ≤ 512 → bh ≤ 512 → bh * bw ≤ len → IsAbout bw bh x y d r → InGrid len bw r
-in_grid len bw bh x y d r wide high all e =
-    let rows = mul-le-mul_right {m = r.bottom} {n = bh} bw (omega arith) in
-    record {
-      cols = omega arith;
-      all = omega arith;
-      few = omega (arith, mul_bound bh bw 512 512 high wide);
-    }
-
--- all n blocks, as one row
-pub one_row : (len n : ℕ) (r : Rect) → r.right ≡ n → r.bottom ≡ 1 → n ≤ len → n ≤ 262144 → InGrid len n r
-one_row len n r e q all few = record { cols = omega arith; all = rw q (omega arith); few = rw q (omega arith) }
+-- ---- all blocks, as one row
 
 same_row : (n : ℕ) (xs : List ℕ) → map (λ x. 0 * n + x) xs ≡ xs
 same_row n [] = refl

@@ -1,24 +1,11 @@
 -- A block that counts by products with 0 or 1. Assumes nothing.
 use mathlib.Core.Path.{◌≡◌}
 use mathlib.Core.Bool.{Bool, true, false, cond}
-use Prim.Native.Nat.{ℕ, ◌+◌, ◌-◌, ◌*◌, ◌≤◌}
+use Prim.Native.Nat.{ℕ, ◌+◌, ◌-◌, ◌*◌}
 use native.Mathlib.Omega.{arith}
 use lib.Dec.{eqb, leb}
 use Rattle.std.specs.Int.{from_bool}
 use Rattle.binarize.specs.Splits.{Tally, with_block}
-
--- what two such numbers and their products come to
-pub record Few (v on one : ℕ) : Type 0 where
-  pub within : on * one ≤ on
-  pub both : on ≤ 1
-  pub low : v * (on * one) ≤ 255
-  pub high : v * (on - on * one) ≤ 255
-
-pub few : (v on one : ℕ) (p q : Bool) → v ≤ 255 → on ≡ from_bool p → one ≡ from_bool q → Few v on one
-few v on one true true h e f = rw (e, f) (record { within = omega arith; both = omega arith; low = omega arith; high = omega arith })
-few v on one true false h e f = rw (e, f) (record { within = omega arith; both = omega arith; low = omega arith; high = omega arith })
-few v on one false true h e f = rw (e, f) (record { within = omega arith; both = omega arith; low = omega arith; high = omega arith })
-few v on one false false h e f = rw (e, f) (record { within = omega arith; both = omega arith; low = omega arith; high = omega arith })
 
 abbrev pub counted : Tally → ℕ → ℕ → ℕ → Tally
 counted t v on one = record { low = t.low + v * (on * one); lows = t.lows + on * one; high = t.high + v * (on - on * one); highs = t.highs + (on - on * one) }

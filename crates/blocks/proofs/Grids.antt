@@ -2,16 +2,14 @@
 use mathlib.Core.Path.{◌≡◌, refl, sym, ap, ◌∙◌}
 use mathlib.Core.List.{List, [], ◌∷◌, map}
 use Prim.Native.Nat.{ℕ, zero, suc, ◌+◌, ◌-◌, ◌*◌, ◌/◌, ◌%◌, ◌≤◌, ◌<◌, min}
-use native.Mathlib.Nat.{zero-mul, suc-mul, mul-zero, mod-lt, div-lt_iff_lt-mul, mul-le-mul_right, mul_comm}
+use native.Mathlib.Nat.{zero-mul, suc-mul, mul-zero, mod-lt, div-lt_iff_lt-mul}
 use native.Mathlib.Omega.{arith}
 use lib.ListN.{length, length-append, length-map}
 use Rattle.lists.specs.Lists.{Each, range, folded, flat_map}
 use Rattle.lists.proofs.Numbers.{mul_bound, row_within}
 use Rattle.lists.proofs.Folds.{folded-append, folded_map, length-count, each_range, each_of_map, each_flat_map}
 use Rattle.lcr_core.specs.Passed.{Sides}
-use Rattle.blocks.specs.declared.rect.Rect.{Rect}
 use Rattle.blocks.specs.Blocks.{cells, blocks_on, blocks_in}
-use Rattle.blocks.specs.Rects.{IsAbout, IsBlock, InRect}
 
 -- a fold over cells goes row by row
 pub folded-cells : {S : Type 0} (g : S → ℕ → S) (w : ℕ) (xs ys : List ℕ) (s : S)
@@ -53,29 +51,7 @@ place i zero h l = let e = mul-zero h in absurd (omega arith)
 place i (suc w) h l =
     let p : 0 < suc w = omega arith in (p, mod-lt i p, (div-lt_iff_lt-mul {k = suc w} {x = i} {y = h} p).1 l)
 
--- the 3 × 3 neighbourhood lies within the grid
-pub near_within : (len i w h : ℕ) (r : Rect) → i < h * w → w ≤ 512 → h ≤ 512 → h * w ≤ len → IsAbout w h (i % w) (i / w) 1 r → InRect len w r
-near_within len i w h r l wide high all e =
-    record {
-      cols = omega arith;
-      narrow = omega arith;
-      low = omega arith;
-      rows = omega arith;
-      all = omega (arith, mul-le-mul_right {m = r.bottom} {n = h} w (omega arith));
-    }
-
--- the pixels of block number i lie within the picture
-pub block_within : (len w h i : ℕ) (r : Rect) → Sides w h → w * h ≤ len → IsBlock w h i r → InRect len w r
-block_within len w h i r s all e =
-    record {
-      cols = omega arith;
-      narrow = omega arith;
-      low = omega arith;
-      rows = omega (arith, s.h_most);
-      all = omega (arith, mul-le-mul_right {m = r.bottom} {n = h} w (omega arith), mul_comm w h);
-    }
-
--- and there are from 1 to 64 of them
+-- block number i has from 1 to 64 pixels
 pub block_size : (w h i : ℕ) → Sides w h → i < blocks_in w h
     → let n = (min h (i / blocks_on w * 8 + 8) - i / blocks_on w * 8) * (min w (i % blocks_on w * 8 + 8) - i % blocks_on w * 8) in (0 < n) × (n ≤ 64)
 block_size w h i s l =

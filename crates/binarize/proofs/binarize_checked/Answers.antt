@@ -17,20 +17,11 @@ put_picture-requires c =
     let p = blocks.passes _ _ _ _ _ _ _ _ q.values in
     (omega arith, omega arith, omega arith, q.bits)
 
-pub returns : goal.returns
-returns c =
+pub returns-clause-bits_after : goal.returns-clause-bits_after
+returns-clause-bits_after c =
     let a = c.args in
     let e = c.block_values.ensures in
     let z = e.refusal ∙ c.requires.values in
-    let means = e.means ∙ sym (unless_done _ _ _ z) in
-    let edges = e.edges ∙ sym (unless_done _ _ _ z) in
-    let nears = e.nears ∙ sym (unless_done _ _ _ z) in record {
-      means_after = means;
-      least_after = e.least ∙ sym (unless_done _ _ _ z);
-      greatest_after = e.greatest ∙ sym (unless_done _ _ _ z);
-      edges_after = edges;
-      nears_after = nears;
-      bits_after = c.put_picture.ensures
-          ∙ bytes_same _ _ _ _
-          (dark_same _ _ _ _ _ _ a.gray.now a.width a.height (at-filled _ _ _ _ means) (at-filled _ _ _ _ edges) (at-filled _ _ _ _ nears));
-    }
+    c.put_picture.ensures
+    ∙ bytes_same _ _ _ _
+    (dark_same _ _ _ _ _ _ a.gray.now a.width a.height (at-filled _ _ _ _ (e.means ∙ sym (unless_done _ _ _ z))) (at-filled _ _ _ _ (e.edges ∙ sym (unless_done _ _ _ z))) (at-filled _ _ _ _ (e.nears ∙ sym (unless_done _ _ _ z))))

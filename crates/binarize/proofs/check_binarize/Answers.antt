@@ -4,11 +4,9 @@ use mathlib.Core.Path.{◌≡◌, sym, ◌∙◌}
 use mathlib.Core.List.{[], ◌∷◌}
 use native.Mathlib.Omega.{arith}
 use borrow.Author.Tests.{lt-ltb, le-ltb}
-use Rattle.lists.proofs.Numbers.{mul_bound}
 use Rattle.lcr_core.proofs.Checks.{same_number, some_number}
 use Rattle.binary.specs.Binary.{bytes_of}
 use Rattle.blocks.specs.Blocks.{blocks_refusal}
-use Rattle.blocks.proofs.Refusals as blocks
 use Rattle.binarize.proofs.Refusals.{values_refused, room_decides}
 use Rattle.binarize.proofs.check_binarize.Goals.{In_ok-check_blocks}
 use Rattle.binarize.proofs.check_binarize.Goals as goal
@@ -18,16 +16,10 @@ passed : (c : In_ok-check_blocks) → let a = c.args in
     blocks_refusal a.len a.width a.height (a.means ∷ a.least ∷ a.greatest ∷ a.edges ∷ a.nears ∷ []) ≡ 0
 passed c = sym c.in_ok-check_blocks.ensures
 
-area : (c : In_ok-check_blocks) → let a = c.args in a.width * a.height ≤ 16777216
-area c = let s = (blocks.passes _ _ _ _ _ _ _ _ (passed c)).sides in mul_bound _ _ 4096 4096 s.w_most s.h_most
-
 pub returns-in_err-check_blocks : goal.returns-in_err-check_blocks
 returns-in_err-check_blocks c =
     let e = c.in_err-check_blocks.ensures in
     same_number _ _ c.from_residual.ensures.1 ∙ e ∙ values_refused _ _ _ _ _ (λ z. some_number _ (e ∙ z))
-
-pub overflow_mul-width : goal.overflow_mul-width
-overflow_mul-width c = omega (arith, area c)
 
 pub returns-then-room-div_ceil : goal.returns-then-room-div_ceil
 returns-then-room-div_ceil c =

@@ -3,12 +3,10 @@ use Prim.Native.Nat.{◌*◌}
 use mathlib.Core.Path.{◌≡◌, refl, sym, ◌∙◌}
 use mathlib.Core.List.{[], ◌∷◌}
 use borrow.Author.Tests.{lt-ltb, le-ltb}
-use native.Mathlib.Omega.{arith}
 use Rattle.std.specs.Prelude.{take}
-use Rattle.lists.proofs.Numbers.{mul_bound}
 use Rattle.lcr_core.specs.Outcome.{first_of, sides_refusal}
-use Rattle.lcr_core.proofs.Checks.{refused_on, check_refuses, check_passes, sides_known}
-use Rattle.blocks.specs.Blocks.{blocks_on, blocks_in, under, blocks_checks, blocks_refusal}
+use Rattle.lcr_core.proofs.Checks.{refused_on, check_refuses, check_passes}
+use Rattle.blocks.specs.Blocks.{blocks_in, under, blocks_checks, blocks_refusal}
 use Rattle.blocks.proofs.Refusals.{any_under}
 use Rattle.blocks.proofs.check_blocks.Goals.{Else-len-w, After-short_work}
 use Rattle.blocks.proofs.check_blocks.Goals as goal
@@ -18,9 +16,6 @@ unfolding blocks_refusal sides_refusal
 returns-in_err-check_sides c =
     let a = c.args in
     refused_on _ _ c.from_residual.ensures.1 2 (blocks_checks a.len a.width a.height (a.means ∷ a.least ∷ a.greatest ∷ a.edges ∷ a.nears ∷ [])) c.in_err-check_sides.ensures
-
-pub overflow_mul-w : goal.overflow_mul-w
-overflow_mul-w c = let s = sides_known c.args.width c.args.height c.in_ok-check_sides.ensures in omega (arith, mul_bound _ _ 4096 4096 s.w_most s.h_most)
 
 -- the first three checks passed
 passed_3 : (c : Else-len-w) → let a = c.args in 0 ≡ first_of (take 3 (blocks_checks a.len a.width a.height (a.means ∷ a.least ∷ a.greatest ∷ a.edges ∷ a.nears ∷ [])))
@@ -34,12 +29,6 @@ unfolding blocks_refusal sides_refusal
 returns-then-len-w c =
     let a = c.args in
     check_refuses 2 (blocks_checks a.len a.width a.height (a.means ∷ a.least ∷ a.greatest ∷ a.edges ∷ a.nears ∷ [])) _ _ refl c.in_ok-check_sides.ensures (sym (lt-ltb _ _ c.if-len-w.true))
-
-pub overflow_mul-n : goal.overflow_mul-n
-overflow_mul-n c =
-    let a = c.args in
-    let s = sides_known a.width a.height c.in_ok-check_sides.ensures in
-    rw (c.blocks_on.ensures, c.blocks_on-2.ensures) (omega (arith, mul_bound (blocks_on a.height) (blocks_on a.width) 512 512 (omega arith) (omega arith)))
 
 -- what the work slices' lengths come to
 tested : (c : After-short_work) → let a = c.args in c.short_work.result ≡ under (blocks_in a.width a.height) (a.means ∷ a.least ∷ a.greatest ∷ a.edges ∷ a.nears ∷ [])

@@ -1,5 +1,5 @@
 use Prim.Native.Nat.{◌+◌}
-use mathlib.Core.Path.{◌≡◌, ap, ◌∙◌}
+use mathlib.Core.Path.{ap, ◌∙◌}
 use native.Mathlib.Omega.{arith}
 use Rattle.lists.proofs.Tabulate.{filled_none, filled_step}
 use Rattle.blocks.specs.Blocks.{at}
@@ -16,9 +16,3 @@ loop-x-preserved c =
     let a = c.args in
     filled_step l.x _ _ l.flags _ (omega arith) l.invariant
     (c.flag_with.ensures ∙ ap (flagged (at a.marks.now (a.from + l.x))) (filled_rest l.x _ _ l.flags l.invariant))
-
-pub returns : goal.returns
-returns c =
-    let l = c.loop-x in
-    let e : l.x ≡ c.args.w = omega arith in
-    rw e at l.invariant

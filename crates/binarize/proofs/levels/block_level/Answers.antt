@@ -1,7 +1,6 @@
 use mathlib.Core.Path.{◌≡◌, sym, ◌∙◌}
 use native.Mathlib.Omega.{arith}
-use lib.Dec.{ltb}
-use Rattle.binarize.proofs.LevelLaws.{either, kind_level, from_first, from_last, from_found, from_missed}
+use Rattle.binarize.proofs.LevelLaws.{kind_level, from_first, from_last, from_found, from_missed}
 use Rattle.binarize.proofs.levels.block_level.Goals.{After-level_about}
 use Rattle.binarize.proofs.levels.block_level.Goals as goal
 
@@ -12,11 +11,6 @@ seen c = c.level_about.ensures ∙ rw c.marks_of-marks.ensures
 
 pub loop-kind-init : goal.loop-kind-init
 loop-kind-init c = (omega arith, from_first _ _ _ _ _ _ _ _)
-
-pub level_about-requires : goal.level_about-requires
-level_about-requires c =
-    let g = c.args.grid in
-    (c.requires.0, c.requires.1, rw c.marks_of-marks.ensures (either (ltb c.loop-kind.kind 2) g.edges.now g.nears.now _ g.all_edges g.all_nears), omega arith)
 
 pub loop-kind-preserved : goal.loop-kind-preserved
 loop-kind-preserved c =

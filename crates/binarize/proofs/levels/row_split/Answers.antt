@@ -12,11 +12,8 @@ loop-x-preserved c =
     let a = c.args in
     (fold_more (column_step (at a.means.now) (at a.marks.now) a.bound a.from) _ _ _ l.x a.b (omega arith) l.invariant.0 c.with_block-r.ensures.counted, omega arith)
 
-pub returns : goal.returns
-returns c =
+pub returns-clause-counted : goal.returns-clause-counted
+returns-clause-counted c =
     let l = c.loop-x in
     let a = c.args in
-    record {
-      counted = sym (fold_end (column_step (at a.means.now) (at a.marks.now) a.bound a.from) _ _ l.x a.b (omega arith) l.invariant.0);
-      few = omega arith;
-    }
+    sym (fold_end (column_step (at a.means.now) (at a.marks.now) a.bound a.from) _ _ l.x a.b (omega arith) l.invariant.0)

@@ -1,47 +1,13 @@
-use Prim.Native.Nat.{◌+◌, ◌-◌, ◌*◌, ◌≤◌}
-use mathlib.Core.Path.{◌≡◌, sym, ap, ◌∙◌}
+use Prim.Native.Nat.{◌+◌, ◌-◌}
+use mathlib.Core.Path.{◌≡◌, sym, ◌∙◌}
 use native.Mathlib.Omega.{arith}
-use lib.ListN.{length}
-use Rattle.lists.specs.Lists.{range, folded}
-use Rattle.lists.proofs.Numbers.{mul_bound, next_row, row_within}
+use Rattle.lists.specs.Lists.{range}
+use Rattle.lists.proofs.Numbers.{next_row}
 use Rattle.lists.proofs.Folds.{fold_more, fold_end}
 use Rattle.blocks.specs.Blocks.{at}
 use Rattle.blocks.proofs.Grids.{folded-cells}
-use Rattle.binarize.specs.Splits.{Tally, block_step, column_step, row_step, no_block}
-use Rattle.binarize.proofs.levels.window_split.Goals.{In-loop-y}
+use Rattle.binarize.specs.Splits.{block_step, column_step, row_step, no_block}
 use Rattle.binarize.proofs.levels.window_split.Goals as goal
-
--- in a turn, row y lies within the grid, and few blocks were counted
-here : (c : In-loop-y) → let a = c.args in let r = a.window in let y = c.loop-y.y in
-    (y * a.w + a.w ≤ length a.means.now) × (y * a.w + a.w ≤ length a.marks.now) × (y * a.w + a.w ≤ 262144)
-    × ((y - r.top) * (r.right - r.left) + (r.right - r.left) ≤ 262144)
-here c =
-    let a = c.args in
-    let r = a.window in
-    let y = c.loop-y.y in
-    let p = c.requires in
-    let h = row_within y r.bottom a.w (omega arith) in
-    let n = row_within (y - r.top) (r.bottom - r.top) (r.right - r.left) (omega arith) in (
-      omega (arith, p.0.all),
-      omega (arith, p.1.all),
-      omega (arith, p.0.few),
-      omega (arith, p.0.few, mul_bound (r.bottom - r.top) (r.right - r.left) r.bottom a.w (omega arith) (omega (arith, p.0.cols))),
-    )
-
-pub loop-y-init : goal.loop-y-init
-loop-y-init c =
-    let a = c.args in
-    let r = a.window in
-    let e = c.new-t.ensures in (
-      ap (λ (t : Tally). folded (row_step (at a.means.now) (at a.marks.now) a.bound a.w r.left r.right) t (range r.top r.bottom)) (sym e),
-      omega (arith, ap (λ (t : Tally). t.lows) e, ap (λ (t : Tally). t.highs) e),
-    )
-
-pub overflow_mul-y : goal.overflow_mul-y
-overflow_mul-y c = let h = here c in omega arith
-
-pub row_split-t-requires : goal.row_split-t-requires
-row_split-t-requires c = let h = here c in omega arith
 
 pub loop-y-preserved : goal.loop-y-preserved
 unfolding row_step

@@ -1,5 +1,5 @@
 use Prim.Native.Nat.{◌+◌}
-use mathlib.Core.Path.{◌≡◌, refl}
+use mathlib.Core.Path.{refl}
 use native.Mathlib.Omega.{arith}
 use lib.Dec.{ltb}
 use Rattle.binary.specs.Binary.{word}
@@ -23,9 +23,3 @@ loop-i-preserved c =
     let l = c.loop-i in
     let a = c.args in
     word_next (λ k. ltb (at a.gray.now k) a.level) a.from l.i _ _ (omega arith) l.invariant c.below.ensures
-
-pub returns : goal.returns
-returns c =
-    let l = c.loop-i in
-    let e : l.i ≡ 8 = omega arith in
-    rw e at l.invariant

@@ -1,12 +1,8 @@
-use Prim.Native.Nat.{◌+◌, ◌*◌, ◌/◌}
+use Prim.Native.Nat.{◌+◌, ◌*◌}
 use mathlib.Core.Path.{◌≡◌, ◌∙◌}
-use native.Mathlib.Nat.{add-zero}
 use native.Mathlib.Omega.{arith}
 use Rattle.binarize.proofs.Eights.{written-eight, same_eight}
 use Rattle.binarize.proofs.rows.put_blocks.Goals as goal
-
-pub loop-j-init : goal.loop-j-init
-loop-j-init c = λ p old l w agree. rw add-zero w
 
 pub loop-j-preserved : goal.loop-j-preserved
 loop-j-preserved c =
@@ -18,9 +14,3 @@ loop-j-preserved c =
     rw up
     (written-eight p (a.from + l.j * 8) old l.bits _ l.acc _ _ (omega arith) put.ensures.rest put.ensures.bytes
     (c.eight_below-b.ensures ∙ same_eight p a.gray.now a.levels.now a.from a.w l.j agree (omega arith)) (l.invariant p old long w agree))
-
-pub returns : goal.returns
-returns c =
-    let l = c.loop-j in
-    let e : l.j ≡ c.args.w / 8 = omega arith in
-    λ p old long w agree. rw e at (l.invariant p old long w agree)

@@ -2,7 +2,7 @@ use Prim.Native.Nat.{ℕ, ◌*◌, ◌+◌, ◌/◌, ◌<◌, min}
 use mathlib.Core.Path.{◌≡◌, refl, sym, ap, ◌∙◌}
 use mathlib.Core.List.{List}
 use native.Mathlib.Omega.{arith}
-use native.Mathlib.Nat.{zero-mul, mul_comm, mul-le-mul_right}
+use native.Mathlib.Nat.{zero-mul, mul_comm}
 use lib.Dec.{ltb}
 use Rattle.binary.proofs.Bits.{written_none, written_all}
 use Rattle.blocks.specs.Blocks.{at, blocks_on}
@@ -13,13 +13,6 @@ pub loop-y-init : goal.loop-y-init
 loop-y-init c =
     let e : min c.args.picture.height 0 ≡ 0 = omega arith in
     (refl, rw (e, zero-mul) (written_none _ _))
-
-pub put_rows-acc-requires : goal.put_rows-acc-requires
-put_rows-acc-requires c =
-    let q = c.args.picture in
-    let e = c.min.ensures in
-    let rows = mul-le-mul_right {m = c.min.result} {n = q.height} q.width (omega arith) in
-    (omega arith, omega arith, omega arith, omega (arith, rows, mul_comm q.width q.height))
 
 pub loop-y-preserved : goal.loop-y-preserved
 loop-y-preserved c =

@@ -1,13 +1,10 @@
 use Prim.Native.Nat.{◌+◌}
-use mathlib.Core.Path.{◌≡◌, sym, ap, ◌∙◌}
+use mathlib.Core.Path.{sym, ap, ◌∙◌}
 use native.Mathlib.Omega.{arith}
 use native.Mathlib.Nat.{add_assoc}
 use Rattle.binary.specs.Binary.{bit}
 use Rattle.binary.proofs.Bits.{written_step}
 use Rattle.binarize.proofs.rows.put_pixels.Goals as goal
-
-pub loop-x-init : goal.loop-x-init
-loop-x-init c = λ p old l w agree. w
 
 pub loop-x-preserved : goal.loop-x-preserved
 loop-x-preserved c =
@@ -19,9 +16,3 @@ loop-x-preserved c =
     (written_step p (a.from + l.x) old l.bits _ l.acc _ _ (omega arith) put.ensures.rest put.ensures.bytes
     (c.below.ensures ∙ ap bit (sym (agree l.x (omega arith))))
     (l.invariant p old long w (λ k h. agree k (omega arith))))
-
-pub returns : goal.returns
-returns c =
-    let l = c.loop-x in
-    let e : l.x ≡ c.args.w = omega arith in
-    λ p old long w agree. rw e at (l.invariant p old long w (λ k h. agree k (omega arith)))

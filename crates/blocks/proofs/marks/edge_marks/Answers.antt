@@ -1,4 +1,3 @@
-use mathlib.Core.Path.{◌≡◌}
 use native.Mathlib.Omega.{arith}
 use Rattle.lists.proofs.Tabulate.{filled_none, filled_step}
 use Rattle.blocks.proofs.marks.edge_marks.Goals as goal
@@ -8,9 +7,3 @@ loop-i-init c = filled_none _ _
 
 pub loop-i-preserved : goal.loop-i-preserved
 loop-i-preserved c = filled_step _ _ _ _ _ (omega arith) c.loop-i.invariant c.mark.ensures
-
-pub returns : goal.returns
-returns c =
-    let l = c.loop-i in
-    let e : l.i ≡ c.args.n = omega arith in
-    rw e at l.invariant

@@ -1,15 +1,8 @@
 -- `blocks::marks::near_mark` meets its contract. Assumes nothing.
 use mathlib.Core.Path.{ap₂, ◌∙◌}
 use Rattle.blocks.specs.Blocks as blocks
-use Rattle.blocks.proofs.Grids.{near_within}
 use Rattle.blocks.proofs.Measures.{values_in}
 use Rattle.blocks.proofs.marks.near_mark.Goals as goal
-
-pub rect_stats-low-requires : goal.rect_stats-low-requires
-rect_stats-low-requires c = let p = c.requires in near_within _ _ _ _ _ p.0 p.1 p.2 p.3 c.about-near.ensures
-
-pub rect_stats-high-requires : goal.rect_stats-high-requires
-rect_stats-high-requires c = let p = c.requires in near_within _ _ _ _ _ p.0 p.1 p.2 p.4 c.about-near.ensures
 
 pub returns : goal.returns
 returns c =

@@ -1,31 +1,12 @@
-use Prim.Native.Nat.{◌+◌, ◌-◌, ◌*◌, ◌≤◌}
+use Prim.Native.Nat.{◌+◌, ◌-◌}
 use mathlib.Core.Path.{◌≡◌, sym, ◌∙◌}
 use native.Mathlib.Omega.{arith}
-use lib.ListN.{length}
 use Rattle.lists.specs.Lists.{range}
-use Rattle.lists.proofs.Numbers.{mul_bound, next_row, row_within}
+use Rattle.lists.proofs.Numbers.{next_row}
 use Rattle.lists.proofs.Folds.{fold_more, fold_end}
 use Rattle.blocks.specs.Steps.{row_step, column_step, cell_step}
 use Rattle.blocks.proofs.Grids.{folded-cells}
-use Rattle.blocks.proofs.stats.rect_stats.Goals.{In-loop-y}
 use Rattle.blocks.proofs.stats.rect_stats.Goals as goal
-
--- in a turn, row y lies within the list, and few values were counted
-here : (c : In-loop-y) → let a = c.args in let r = a.rect in let y = c.loop-y.y in
-    (y * a.w + a.w ≤ length a.s.now) × ((y - r.top) * (r.right - r.left) + (r.right - r.left) ≤ 64)
-here c =
-    let a = c.args in
-    let r = a.rect in
-    let y = c.loop-y.y in (
-      omega (arith, c.requires.all, row_within y r.bottom a.w (omega arith)),
-      omega (arith, row_within (y - r.top) (r.bottom - r.top) (r.right - r.left) (omega arith), mul_bound (r.bottom - r.top) (r.right - r.left) 8 8 c.requires.low c.requires.narrow),
-    )
-
-pub overflow_mul-y : goal.overflow_mul-y
-overflow_mul-y c = let h = here c in omega arith
-
-pub row_stats-t-requires : goal.row_stats-t-requires
-row_stats-t-requires c = let h = here c in omega arith
 
 pub loop-y-preserved : goal.loop-y-preserved
 unfolding row_step

@@ -1,12 +1,8 @@
 -- `blocks::stats::values_of` meets its contract. Assumes nothing.
 use native.Mathlib.Omega.{arith}
 use Rattle.lists.proofs.Numbers.{mean_small}
-use Rattle.blocks.proofs.Grids.{block_within}
 use Rattle.blocks.proofs.Measures.{block_is}
 use Rattle.blocks.proofs.stats.values_of.Goals as goal
-
-pub rect_stats-t-requires : goal.rect_stats-t-requires
-rect_stats-t-requires c = let p = c.args.picture in block_within _ _ _ _ _ p.sides p.bytes c.block-block.ensures
 
 pub overflow_cast-result-2 : goal.overflow_cast-result-2
 overflow_cast-result-2 c = omega (arith, mean_small _ _ c.rect_stats-t.ensures.1)
