@@ -1,7 +1,7 @@
 -- How a hit is confirmed (document 01, "Finding and ranking": "A row hit is confirmed down, then across, a column hit across, then down, each run
 -- stopping after 5 × module (truncated) + 4 pixels"; document 02, N7: "A finder hit with a run ended by the limit in either confirmation is dropped").
 -- Definitions only.
-use Rattle.std.specs.Prelude.{ℕ, ◌+◌, ◌-◌, Bool, true, false, cond, ◌||◌, List, Float, Option, Some, None, option_and_then}
+use Rattle.std.specs.Prelude.{ℕ, ◌+◌, ◌-◌, Bool, true, false, cond, ◌||◌, List, Float, Option, Some, None, option_map, option_and_then}
 use Rattle.std.specs.Float.Ieee.{to_unsigned}
 use Rattle.float.specs.Steps.{plus32, times32, over32, whole32}
 use Rattle.float.specs.Constants.{f2, f5}
@@ -35,15 +35,10 @@ side_before f limit i = let light = limited_before false f limit i in side_of li
 unfoldable pub side_after : (ℕ → Bool) → ℕ → ℕ → ℕ → Side
 side_after f len limit i = let light = limited_after false f len limit i in side_of light (limited_after true f len limit (i + light.count))
 
--- the centre, where the runs pass
-abbrev pub centre_if : Option Float → Float → Option Float
-centre_if (Some m) x = Some x
-centre_if None x = None
-
--- a core of so many pixels from pixel `top` on, between two sides
+-- the centre of a core of so many pixels from pixel `top` on, between two sides, where the runs pass
 unfoldable pub centre_of : Side → ℕ → Side → ℕ → Option Float
 centre_of a core b top =
-    centre_if (match_of a.dark a.light core b.light b.dark) (plus32 (whole32 top) (over32 (whole32 core) f2))
+    option_map (λ pitch. plus32 (whole32 top) (over32 (whole32 core) f2)) (match_of a.dark a.light core b.light b.dark)
 
 -- a rule for the centre of the core about pixel i of a line f of len pixels, where each run stops at a limit
 abbrev pub Rule : Type 0

@@ -61,10 +61,8 @@ fn side_after(bits: &[u8], start: u32, stride: u32, len: u16, from: u16, limit: 
 fn centre_of(a: Side, core: u16, b: Side, top: u16) -> Option<f32>
     ensures { result ≡ centre_of a core b top }
 {
-    match ratio::matches_finder(a.dark, a.light, core, b.light, b.dark) {
-        Some(_) => Some(top as f32 + core as f32 / 2.0),
-        None => None,
-    }
+    ratio::matches_finder(a.dark, a.light, core, b.light, b.dark)?;
+    Some(top as f32 + core as f32 / 2.0)
 }
 
 // The centre of the core about the dark pixel i of a line, where the runs pass and the limit ended none.

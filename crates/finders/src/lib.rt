@@ -18,7 +18,7 @@ mod search;
 // The places of the table.
 pub const MAX_FINDERS: usize = 128;
 
-// So many finders; the places beyond the count are zero.
+// So many finders; the places beyond the count are zero. A count beside an array: document 01 fixes this form, and there is no heap.
 #[derive(Clone, Copy)]
 pub struct Finders {
     pub count: usize,

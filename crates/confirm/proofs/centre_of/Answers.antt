@@ -2,10 +2,10 @@
 use Rattle.confirm.specs.Confirm.{centre_of}
 use Rattle.confirm.proofs.centre_of.Goals as goal
 
-pub returns-in-Some : goal.returns-in-Some
+pub returns-in_err-matches_finder : goal.returns-in_err-matches_finder
 unfolding centre_of
-returns-in-Some c = rw (← c.matches_finder.ensures, c.in-Some.is)
+returns-in_err-matches_finder c = rw (← c.matches_finder.ensures, c.in_err-matches_finder.was) c.from_residual.ensures
 
-pub returns-in-None : goal.returns-in-None
+pub returns : goal.returns
 unfolding centre_of
-returns-in-None c = rw (← c.matches_finder.ensures, c.in-None.is)
+returns c = rw (← c.matches_finder.ensures, c.in_ok-matches_finder.was)
