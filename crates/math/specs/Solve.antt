@@ -1,7 +1,7 @@
 -- `solve` of document 005, at any size: Gaussian elimination with partial pivoting, and back substitution. Document 01: "`solve` (on fixed tables of
 -- size 6 or 8)" refuses nothing, "none" is its answer where the Rust gives `None`, and the floats handed in may be any. Steps are f64, in the order
 -- written. Definitions only.
-use Rattle.std.specs.Prelude.{Bool, false, cond, ◌&&◌, ◌||◌, List, [], ◌∷◌, ℕ, zero, suc, ◌+◌, ◌-◌, ◌*◌, leb, ltb, eqb, get_or, Option, Some, None, Float}
+use Rattle.std.specs.Prelude.{Bool, false, cond, ◌&&◌, ◌||◌, List, [], ◌∷◌, ℕ, zero, suc, ◌-◌, leb, ltb, eqb, get_or, Option, Some, None, Float}
 use Rattle.std.specs.Float.{nan}
 use Rattle.std.specs.Float.Ieee.{lt, eq}
 use Rattle.float.specs.Floats.{abs_of}
@@ -18,9 +18,9 @@ Matrix = ℕ → ℕ → Float
 abbrev pub Vector : Type 0
 Vector = ℕ → Float
 
--- [A | b], of n rows, with A listed row after row: column n is the right-hand side
-unfoldable pub augmented : ℕ → List Float → List Float → Matrix
-augmented n a b r k = cond (ltb k n) (get_or a (r * n + k) nan) (get_or b r nan)
+-- [a | b], of n rows: column n is the right-hand side
+unfoldable pub augmented : ℕ → List (List Float) → List Float → Matrix
+augmented n a b r k = cond (ltb k n) (get_or (get_or a r []) k nan) (get_or b r nan)
 
 -- ---- row operations
 
@@ -83,10 +83,11 @@ unknowns n u (suc j) k =
 
 -- ---- the answer
 
--- the first eight
-abbrev pub eight : Vector → List Float
-eight x = x 0 ∷ x 1 ∷ x 2 ∷ x 3 ∷ x 4 ∷ x 5 ∷ x 6 ∷ x 7 ∷ []
+-- the first n
+abbrev pub first : ℕ → Vector → List Float
+first zero x = []
+first (suc n) x = x 0 ∷ first n (λ k. x (suc k))
 
--- none where a pivot is below 1e-12; the unknowns, with zeros beyond the n that there are, where none is
+-- none where a pivot is below 1e-12; the n unknowns where none is
 unfoldable pub solution_of : ℕ → Matrix → Option (List Float)
-solution_of n m = cond (singular n m n) None (Some (eight (unknowns n (upper n m n) n)))
+solution_of n m = cond (singular n m n) None (Some (first n (unknowns n (upper n m n) n)))

@@ -1,12 +1,11 @@
 -- The functions' results put together: each law has the values that the calls gave, and what is known of them. Assumes nothing.
-use Rattle.std.proofs.Common.{◌≡◌, ℕ, ◌-◌, Bool, false, cond, List, ◌++◌, length, get_or, replicate, Option, sym, refl, ap, ◌∙◌}
-use lib.Seq.{paste}
+use Rattle.std.proofs.Common.{◌≡◌, ℕ, ◌-◌, Bool, false, cond, List, [], ◌∷◌, ◌++◌, length, get_or, Option, Some, None, option_map, arith, sym, refl, ap, ◌∙◌}
 use lib.Ieee.{Float, nan, inf, lt, eq, div, of_bits}
 use Rattle.float.specs.Floats.{abs_of, narrow_of, min_of, max_of}
 use Rattle.float.specs.Steps.{plus32, times32, over32, plus64, over64}
 use Rattle.float.specs.Constants.{f0, f1, half, f1_5, d0, d1, d1e_9}
 use Rattle.math.specs.Solve.{augmented, solution_of}
-use Rattle.transform.specs.Fit.{widened, homography_rows, affine_rows, both, fit_of, quad_fit, triangle_fit}
+use Rattle.transform.specs.Fit.{plain, widened, homography_rows, affine_rows, affine_numbers, both, fit_of, quad_fit, triangle_fit}
 use Rattle.transform.specs.Apply.{linear_of, apart_of, projected, offset_of, divided, bent, applied, in_module, center_of, distance_of, pitch_at, pitches_of}
 use Rattle.transform.specs.declared.Point.{Point}
 use Rattle.transform.specs.declared.Wide.{Wide}
@@ -20,28 +19,44 @@ pub apart_is : (w a : Float) (b : Bool) → a ≡ abs_of w → lt a d1e_9 ≡ b 
 unfolding apart_of
 apart_is w a b e t = ap (λ (b : Bool). cond b d1e_9 w) (sym t) ∙ ap (λ (a : Float). cond (lt a d1e_9) d1e_9 w) e
 
--- ---- fits: the tables of rows, pasted one after the other
-module _ (w₀ w₁ w₂ w₃ d₀ d₁ d₂ d₃ : Wide) (r₀ r₁ r₂ r₃ a₁ a₂ a₃ a₄ : List Float) where
+-- ---- fits: the equations, two rows for each point
+module _ (w₀ w₁ w₂ w₃ d₀ d₁ d₂ d₃ : Wide) (r₀ r₁ r₂ r₃ : List (List Float)) where
   pub quad_table : r₀ ≡ homography_rows w₀ d₀ → r₁ ≡ homography_rows w₁ d₁ → r₂ ≡ homography_rows w₂ d₂ → r₃ ≡ homography_rows w₃ d₃
-      → a₁ ≡ paste (replicate 64 d0) 0 r₀ (length r₀) → a₂ ≡ paste a₁ 16 r₁ (length r₁) → a₃ ≡ paste a₂ 32 r₂ (length r₂) → a₄ ≡ paste a₃ 48 r₃ (length r₃)
-      → a₄ ≡ homography_rows w₀ d₀ ++ homography_rows w₁ d₁ ++ homography_rows w₂ d₂ ++ homography_rows w₃ d₃
-  quad_table g₀ g₁ g₂ g₃ e₁ e₂ e₃ e₄ = rw (e₄, e₃, e₂, e₁, g₀, g₁, g₂, g₃)
+      → get_or r₀ 0 [] ∷ get_or r₀ 1 [] ∷ get_or r₁ 0 [] ∷ get_or r₁ 1 [] ∷ get_or r₂ 0 [] ∷ get_or r₂ 1 [] ∷ get_or r₃ 0 [] ∷ get_or r₃ 1 [] ∷ []
+      ≡ homography_rows w₀ d₀ ++ homography_rows w₁ d₁ ++ homography_rows w₂ d₂ ++ homography_rows w₃ d₃
+  quad_table g₀ g₁ g₂ g₃ = rw (g₀, g₁, g₂, g₃)
 
-module _ (w₀ w₁ w₂ : Wide) (r₀ r₁ r₂ a₁ a₂ a₃ : List Float) where
+module _ (w₀ w₁ w₂ : Wide) (r₀ r₁ r₂ : List (List Float)) where
   pub triangle_table : r₀ ≡ affine_rows w₀ → r₁ ≡ affine_rows w₁ → r₂ ≡ affine_rows w₂
-      → a₁ ≡ paste (replicate 36 d0) 0 r₀ (length r₀) → a₂ ≡ paste a₁ 12 r₁ (length r₁) → a₃ ≡ paste a₂ 24 r₂ (length r₂) → a₃ ≡ affine_rows w₀ ++ affine_rows w₁ ++ affine_rows w₂
-  triangle_table g₀ g₁ g₂ e₁ e₂ e₃ = rw (e₃, e₂, e₁, g₀, g₁, g₂)
+      → get_or r₀ 0 [] ∷ get_or r₀ 1 [] ∷ get_or r₁ 0 [] ∷ get_or r₁ 1 [] ∷ get_or r₂ 0 [] ∷ get_or r₂ 1 [] ∷ [] ≡ affine_rows w₀ ++ affine_rows w₁ ++ affine_rows w₂
+  triangle_table g₀ g₁ g₂ = rw (g₀, g₁, g₂)
 
-pub quad_is : (s d : Quad) (w₀ w₁ w₂ w₃ d₀ d₁ d₂ d₃ : Wide) (a : List Float) (r : Option (List Float)) → w₀ ≡ widened s.a → w₁ ≡ widened s.b → w₂ ≡ widened s.c → w₃ ≡ widened s.d
+-- six numbers, one by one
+pub six_is : (x : List Float) → length x ≡ 6 → get_or x 0 nan ∷ get_or x 1 nan ∷ get_or x 2 nan ∷ get_or x 3 nan ∷ get_or x 4 nan ∷ get_or x 5 nan ∷ d0 ∷ d0 ∷ [] ≡ affine_numbers x
+six_is [] h = absurd (omega arith)
+six_is (a ∷ []) h = absurd (omega arith)
+six_is (a ∷ b ∷ []) h = absurd (omega arith)
+six_is (a ∷ b ∷ c ∷ []) h = absurd (omega arith)
+six_is (a ∷ b ∷ c ∷ d ∷ []) h = absurd (omega arith)
+six_is (a ∷ b ∷ c ∷ d ∷ e ∷ []) h = absurd (omega arith)
+six_is (a ∷ b ∷ c ∷ d ∷ e ∷ f ∷ []) h = refl
+six_is (a ∷ b ∷ c ∷ d ∷ e ∷ f ∷ g ∷ x) h = absurd (omega arith)
+
+-- what `Option::map` gives by `affine`
+pub affine_is : (r : Option (List Float)) (f : Option Transform) → f ≡ option_map (λ x. plain (affine_numbers x)) r → f ≡ fit_of (option_map affine_numbers r)
+affine_is None f e = e
+affine_is (Some x) f e = e
+
+pub quad_is : (s d : Quad) (w₀ w₁ w₂ w₃ d₀ d₁ d₂ d₃ : Wide) (a : List (List Float)) (r : Option (List Float)) → w₀ ≡ widened s.a → w₁ ≡ widened s.b → w₂ ≡ widened s.c → w₃ ≡ widened s.d
     → d₀ ≡ widened d.a → d₁ ≡ widened d.b → d₂ ≡ widened d.c → d₃ ≡ widened d.d
     → a ≡ homography_rows w₀ d₀ ++ homography_rows w₁ d₁ ++ homography_rows w₂ d₂ ++ homography_rows w₃ d₃
     → r ≡ solution_of 8 (augmented 8 a (both d₀ ++ both d₁ ++ both d₂ ++ both d₃)) → (f : Option Transform) → f ≡ fit_of r → f ≡ quad_fit s d
 unfolding quad_fit
 quad_is s d w₀ w₁ w₂ w₃ d₀ d₁ d₂ d₃ a r e₀ e₁ e₂ e₃ g₀ g₁ g₂ g₃ t h f k = cc
 
-pub triangle_is : (s d : Triangle) (w₀ w₁ w₂ d₀ d₁ d₂ : Wide) (a : List Float) (r : Option (List Float)) → w₀ ≡ widened s.a → w₁ ≡ widened s.b → w₂ ≡ widened s.c
+pub triangle_is : (s d : Triangle) (w₀ w₁ w₂ d₀ d₁ d₂ : Wide) (a : List (List Float)) (r : Option (List Float)) → w₀ ≡ widened s.a → w₁ ≡ widened s.b → w₂ ≡ widened s.c
     → d₀ ≡ widened d.a → d₁ ≡ widened d.b → d₂ ≡ widened d.c → a ≡ affine_rows w₀ ++ affine_rows w₁ ++ affine_rows w₂
-    → r ≡ solution_of 6 (augmented 6 a (both d₀ ++ both d₁ ++ both d₂)) → (f : Option Transform) → f ≡ fit_of r → f ≡ triangle_fit s d
+    → r ≡ solution_of 6 (augmented 6 a (both d₀ ++ both d₁ ++ both d₂)) → (f : Option Transform) → f ≡ fit_of (option_map affine_numbers r) → f ≡ triangle_fit s d
 unfolding triangle_fit
 triangle_is s d w₀ w₁ w₂ d₀ d₁ d₂ a r e₀ e₁ e₂ g₀ g₁ g₂ t h f k = cc
 

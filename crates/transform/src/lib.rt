@@ -1,9 +1,8 @@
 // The projective map from module coordinates to pixels, and the lens behind it. Positions are f32; the map's numbers and steps are f64.
 #![tactic(auto)]
 
-ghost use Rattle.std.specs.Prelude.{◌≡◌, ◌+◌, ◌≤◌, length};
-ghost use Rattle.std.proofs.Math.Seq.{paste as pasted};
-ghost use Rattle.transform.specs.Fit.{plain, zero_transform, identity_transform, widened, homography_rows, affine_rows, quad_fit, triangle_fit};
+ghost use Rattle.std.specs.Prelude.{◌≡◌};
+ghost use Rattle.transform.specs.Fit.{plain, zero_transform, identity_transform, widened, homography_rows, affine_rows, affine_numbers, quad_fit, triangle_fit};
 ghost use Rattle.transform.specs.Apply.{linear_of, apart_of, projected, narrowed, placed, offset_of, divided, bent, applied, with_radial, center_of, distance2_of, distance_of, pitch_at, pitches_of};
 
 use float::Float;
@@ -63,7 +62,7 @@ fn widen(p: Point) -> Wide
 }
 
 // The two equations that take s to d.
-fn homography_rows(s: Wide, d: Wide) -> [f64; 16]
+fn homography_rows(s: Wide, d: Wide) -> [[f64; 8]; 2]
     ensures { result ≡ homography_rows s d }
 {
     let u = s.x;
@@ -71,40 +70,25 @@ fn homography_rows(s: Wide, d: Wide) -> [f64; 16]
     let x = -d.x;
     let y = -d.y;
     [
-        u,
-        v,
-        1.0,
-        0.0,
-        0.0,
-        0.0,
-        x * u,
-        x * v,
-        0.0,
-        0.0,
-        0.0,
-        u,
-        v,
-        1.0,
-        y * u,
-        y * v,
+        [u, v, 1.0, 0.0, 0.0, 0.0, x * u, x * v],
+        [0.0, 0.0, 0.0, u, v, 1.0, y * u, y * v],
     ]
 }
 
-fn affine_rows(s: Wide) -> [f64; 12]
+fn affine_rows(s: Wide) -> [[f64; 6]; 2]
     ensures { result ≡ affine_rows s }
 {
-    [s.x, s.y, 1.0, 0.0, 0.0, 0.0, 0.0, 0.0, 0.0, s.x, s.y, 1.0]
+    [
+        [s.x, s.y, 1.0, 0.0, 0.0, 0.0],
+        [0.0, 0.0, 0.0, s.x, s.y, 1.0],
+    ]
 }
 
-fn paste(d: &mut [f64], at: usize, s: &[f64])
-    requires { at + length s.now ≤ length d.old }
-    ensures { d.new ≡ pasted d.old at s.now (length s.now) }
+// The affine map of six numbers.
+fn affine(x: [f64; 6]) -> Transform
+    ensures { result ≡ plain (affine_numbers x) }
 {
-    let mut i = 0;
-    while i < s.len() {
-        d[at + i] = s[i];
-        i += 1;
-    }
+    Transform::plain([x[0], x[1], x[2], x[3], x[4], x[5], 0.0, 0.0])
 }
 
 impl Transform {
@@ -153,13 +137,9 @@ impl Transform {
         let r1 = homography_rows(widen(src.b), d1);
         let r2 = homography_rows(widen(src.c), d2);
         let r3 = homography_rows(widen(src.d), d3);
-        let mut a = [0.0; 64];
-        paste(&mut a, 0, &r0);
-        paste(&mut a, 16, &r1);
-        paste(&mut a, 32, &r2);
-        paste(&mut a, 48, &r3);
+        let a = [r0[0], r0[1], r1[0], r1[1], r2[0], r2[1], r3[0], r3[1]];
         let b = [d0.x, d0.y, d1.x, d1.y, d2.x, d2.y, d3.x, d3.y];
-        math::solve8(a, b).map(Transform::plain)
+        math::solve(&a, &b).map(Transform::plain)
     }
 
     // The affine map that takes the three points of src to those of dst, or none.
@@ -172,12 +152,9 @@ impl Transform {
         let r0 = affine_rows(widen(src.a));
         let r1 = affine_rows(widen(src.b));
         let r2 = affine_rows(widen(src.c));
-        let mut a = [0.0; 36];
-        paste(&mut a, 0, &r0);
-        paste(&mut a, 12, &r1);
-        paste(&mut a, 24, &r2);
+        let a = [r0[0], r0[1], r1[0], r1[1], r2[0], r2[1]];
         let b = [d0.x, d0.y, d1.x, d1.y, d2.x, d2.y];
-        math::solve6(a, b).map(Transform::plain)
+        math::solve(&a, &b).map(affine)
     }
 
     // Where p goes, in f64.

@@ -1,11 +1,11 @@
 -- `transform::Transform::from_triangle` meets its contract. Assumes nothing.
-use Rattle.transform.proofs.Laws.{triangle_table, triangle_is}
 use Rattle.std.proofs.Common.{rules}
+use Rattle.transform.proofs.Laws.{triangle_table, affine_is, triangle_is}
 use Rattle.transform.proofs.Transform.from_triangle.Goals as goal
 
 pub returns : goal.returns
 returns c =
     triangle_is _ _ _ _ _ _ _ _ _ _ c.widen.ensures c.widen-2.ensures c.widen-3.ensures
     c.widen-d0.ensures c.widen-d1.ensures c.widen-d2.ensures
-    (triangle_table _ _ _ _ _ _ _ _ _ c.affine_rows-r0.ensures c.affine_rows-r1.ensures c.affine_rows-r2.ensures c.paste.ensures c.paste-2.ensures c.paste-3.ensures)
-    c.solve6.ensures _ (search rules)
+    (triangle_table _ _ _ _ _ _ c.affine_rows-r0.ensures c.affine_rows-r1.ensures c.affine_rows-r2.ensures)
+    c.solve.ensures _ (affine_is c.solve.result _ (search rules))
