@@ -5,14 +5,33 @@ use record::values;
 use transform::{Point, Quad, Transform, Triangle};
 
 fn solve6(p: &[u8], out: &mut [u8]) -> usize {
-    let s = math::solve6(values::doubles_at(p, 0), values::doubles_at(p, 288));
+    let a: [[f64; 6]; 6] = [
+        values::doubles_at(p, 0),
+        values::doubles_at(p, 48),
+        values::doubles_at(p, 96),
+        values::doubles_at(p, 144),
+        values::doubles_at(p, 192),
+        values::doubles_at(p, 240),
+    ];
+    let s = math::solve(&a, &values::doubles_at(p, 288));
     values::put_flag(out, 0, s.is_some());
-    values::put_doubles(out, 1, s.unwrap_or([0.0; 8]));
+    let x = s.unwrap_or([0.0; 6]);
+    values::put_doubles(out, 1, [x[0], x[1], x[2], x[3], x[4], x[5], 0.0, 0.0]);
     49
 }
 
 fn solve8(p: &[u8], out: &mut [u8]) -> usize {
-    let s = math::solve8(values::doubles_at(p, 0), values::doubles_at(p, 512));
+    let a: [[f64; 8]; 8] = [
+        values::doubles_at(p, 0),
+        values::doubles_at(p, 64),
+        values::doubles_at(p, 128),
+        values::doubles_at(p, 192),
+        values::doubles_at(p, 256),
+        values::doubles_at(p, 320),
+        values::doubles_at(p, 384),
+        values::doubles_at(p, 448),
+    ];
+    let s = math::solve(&a, &values::doubles_at(p, 512));
     values::put_flag(out, 0, s.is_some());
     values::put_doubles(out, 1, s.unwrap_or([0.0; 8]));
     65
