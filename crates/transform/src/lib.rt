@@ -52,12 +52,27 @@ struct Wide {
     y: f64,
 }
 
-fn widen(p: Point) -> Wide
-    ensures { result ≡ widened p }
-{
-    Wide {
-        x: std::num::f32_to_f64_with_nan(p.x),
-        y: std::num::f32_to_f64_with_nan(p.y),
+// An f32 is an f64 as it stands.
+impl From<Point> for Wide {
+    ghost from_gives = { λ p wide. wide ≡ widened p };
+
+    fn from(p: Point) -> Wide {
+        Wide {
+            x: std::num::f32_to_f64_with_nan(p.x),
+            y: std::num::f32_to_f64_with_nan(p.y),
+        }
+    }
+}
+
+// The nearest f32 of both.
+impl From<Wide> for Point {
+    ghost from_gives = { λ p point. point ≡ narrowed p };
+
+    fn from(p: Wide) -> Point {
+        Point {
+            x: float::narrow(p.x),
+            y: float::narrow(p.y),
+        }
     }
 }
 
@@ -129,14 +144,14 @@ impl Transform {
     pub fn from_quad(src: Quad, dst: Quad) -> Option<Transform>
         ensures { result ≡ quad_fit src dst }
     {
-        let d0 = widen(dst.a);
-        let d1 = widen(dst.b);
-        let d2 = widen(dst.c);
-        let d3 = widen(dst.d);
-        let r0 = homography_rows(widen(src.a), d0);
-        let r1 = homography_rows(widen(src.b), d1);
-        let r2 = homography_rows(widen(src.c), d2);
-        let r3 = homography_rows(widen(src.d), d3);
+        let d0 = Wide::from(dst.a);
+        let d1 = Wide::from(dst.b);
+        let d2 = Wide::from(dst.c);
+        let d3 = Wide::from(dst.d);
+        let r0 = homography_rows(Wide::from(src.a), d0);
+        let r1 = homography_rows(Wide::from(src.b), d1);
+        let r2 = homography_rows(Wide::from(src.c), d2);
+        let r3 = homography_rows(Wide::from(src.d), d3);
         let a = [r0[0], r0[1], r1[0], r1[1], r2[0], r2[1], r3[0], r3[1]];
         let b = [d0.x, d0.y, d1.x, d1.y, d2.x, d2.y, d3.x, d3.y];
         math::solve(&a, &b).map(Transform::plain)
@@ -146,12 +161,12 @@ impl Transform {
     pub fn from_triangle(src: Triangle, dst: Triangle) -> Option<Transform>
         ensures { result ≡ triangle_fit src dst }
     {
-        let d0 = widen(dst.a);
-        let d1 = widen(dst.b);
-        let d2 = widen(dst.c);
-        let r0 = affine_rows(widen(src.a));
-        let r1 = affine_rows(widen(src.b));
-        let r2 = affine_rows(widen(src.c));
+        let d0 = Wide::from(dst.a);
+        let d1 = Wide::from(dst.b);
+        let d2 = Wide::from(dst.c);
+        let r0 = affine_rows(Wide::from(src.a));
+        let r1 = affine_rows(Wide::from(src.b));
+        let r2 = affine_rows(Wide::from(src.c));
         let a = [r0[0], r0[1], r1[0], r1[1], r2[0], r2[1]];
         let b = [d0.x, d0.y, d1.x, d1.y, d2.x, d2.y];
         math::solve(&a, &b).map(affine)
@@ -173,7 +188,8 @@ impl Transform {
     pub fn place(self, u: f32, v: f32) -> Point
         ensures { result ≡ placed self.m u v }
     {
-        narrow(self.project(widen(Point { x: u, y: v })))
+        let p = Wide::from(Point { x: u, y: v });
+        Point::from(self.project(p))
     }
 
     // The pixel position to which the lens takes p, by four rounds of the division.
@@ -196,7 +212,7 @@ impl Transform {
         if self.strength == 0.0 {
             return self.place(u, v);
         }
-        self.bend(self.project(widen(Point { x: u, y: v })))
+        self.bend(self.project(Wide::from(Point { x: u, y: v })))
     }
 
     // The same map through a lens about (cx, cy).
@@ -268,15 +284,6 @@ fn divide(k: f64, u: Wide, d: Wide) -> Wide
     Wide {
         x: u.x / s,
         y: u.y / s,
-    }
-}
-
-fn narrow(p: Wide) -> Point
-    ensures { result ≡ narrowed p }
-{
-    Point {
-        x: float::narrow(p.x),
-        y: float::narrow(p.y),
     }
 }
 

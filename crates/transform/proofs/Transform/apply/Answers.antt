@@ -9,4 +9,4 @@ returns-then-self c = c.place.ensures ∙ sym (strength_zero _ c.if-self.true _ 
 
 pub returns : goal.returns
 returns c =
-    applied-bent _ _ _ _ _ _ c.if-self.false c.widen.ensures c.project.ensures c.bend.ensures
+    applied-bent _ _ _ _ _ _ c.if-self.false c.from.ensures c.project.ensures c.bend.ensures

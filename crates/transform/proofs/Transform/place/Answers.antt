@@ -4,4 +4,4 @@ use Rattle.transform.proofs.Transform.place.Goals as goal
 
 pub returns : goal.returns
 unfolding placed
-returns c = rw (c.narrow.ensures, c.project.ensures, c.widen.ensures)
+returns c = rw (c.from.ensures, c.project.ensures, c.from-p.ensures)

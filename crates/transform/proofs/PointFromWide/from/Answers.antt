@@ -1,6 +1,6 @@
--- `transform::narrow` meets its contract. Assumes nothing.
+-- `transform::PointFromWide::from` meets its contract. Assumes nothing.
 use Rattle.transform.specs.Apply.{narrowed}
-use Rattle.transform.proofs.narrow.Goals as goal
+use Rattle.transform.proofs.PointFromWide.from.Goals as goal
 
 pub returns : goal.returns
 unfolding narrowed

@@ -1,7 +1,0 @@
--- `transform::widen` meets its contract. Assumes nothing.
-use Rattle.transform.specs.Fit.{widened}
-use Rattle.transform.proofs.widen.Goals as goal
-
-pub returns : goal.returns
-unfolding widened
-returns c = cc
