@@ -249,7 +249,7 @@ impl Transform {
     pub fn pitch_range(self, side: u16) -> Pitches
         ensures { result ≡ pitches_of self side }
     {
-        let far = if side < 2 { 0 } else { side - 2 };
+        let far = side.saturating_sub(2);
         let a = self.local_pitch(0, 0);
         let b = self.local_pitch(far, 0);
         let c = self.local_pitch(0, far);
