@@ -1,8 +1,8 @@
 // Gray conversion.
-ghost use Rattle.std.specs.Prelude.{◌≡◌, ◌+◌, ◌*◌, ◌≤◌, ◌<◌, length};
+ghost use Rattle.std.specs.Prelude.{◌≡◌, ◌+◌, ◌*◌, ◌≤◌, ◌<◌, length, IfOk};
 ghost use Rattle.lists.specs.Lists.{tabulate, filled};
 ghost use Rattle.lcr_core.specs.Outcome.{number_of};
-ghost use Rattle.image.specs.Gray.{short_picture, gray_refusal, gray_rule, gray_of, gray_at, gray_written};
+ghost use Rattle.image.specs.Gray.{short_picture, gray_refusal, gray_rule, gray_of, gray_at, gray_written, channels_of};
 ghost use Rattle.image.specs.Passed.{KnownFormat, GrayPassed};
 
 use super::PixelFormat;
@@ -17,16 +17,17 @@ fn short_picture(len: usize, width: u32, height: u32, stride: u32, channels: usi
     (stride as usize) < row || len < (height as usize - 1) * stride as usize + row
 }
 
-// What gray conversion refuses of `len` bytes, with `room` bytes for the result.
-pub fn check_gray(
+// The format of a picture of `len` bytes, or what gray conversion refuses of it, with `room` bytes for the result.
+fn checked_format(
     len: usize,
     width: u32,
     height: u32,
     stride: u32,
     format: u8,
     room: usize,
-) -> Result<(), Refusal>
-    ensures { number_of result ≡ gray_refusal len width height stride format room }
+) -> Result<PixelFormat, Refusal>
+    ensures number { number_of result ≡ gray_refusal len width height stride format room }
+    ensures format { IfOk result (λ known. channels_of known ≡ format) }
 {
     check_sides(width, height)?;
     let Some(known) = PixelFormat::from_byte(format) else {
@@ -38,6 +39,21 @@ pub fn check_gray(
     if room < width as usize * height as usize {
         return Err(Refusal::ShortOutput);
     }
+    Ok(known)
+}
+
+// What gray conversion refuses of `len` bytes, with `room` bytes for the result.
+pub fn check_gray(
+    len: usize,
+    width: u32,
+    height: u32,
+    stride: u32,
+    format: u8,
+    room: usize,
+) -> Result<(), Refusal>
+    ensures { number_of result ≡ gray_refusal len width height stride format room }
+{
+    checked_format(len, width, height, stride, format, room)?;
     Ok(())
 }
 
@@ -70,27 +86,28 @@ fn row_of<const STEP: usize>(src: &[u8], out: &mut [u8])
     }
 }
 
-// A row of pixels of `step` bytes.
-fn gray_row(src: &[u8], step: usize, out: &mut [u8])
-    requires { KnownFormat step × (length src.now ≡ length out.old * step) }
-    ensures { out.new ≡ tabulate (length out.old) (λ x. gray_of src.now step (x * step)) }
+// A row of pixels.
+fn gray_row(src: &[u8], format: PixelFormat, out: &mut [u8])
+    requires { length src.now ≡ length out.old * channels_of format }
+    ensures { out.new ≡ tabulate (length out.old) (λ x. gray_of src.now (channels_of format) (x * channels_of format)) }
 {
-    match step {
-        1 => row_of::<1>(src, out),
-        3 => row_of::<3>(src, out),
-        _ => row_of::<4>(src, out),
+    match format {
+        PixelFormat::Gray8 => row_of::<1>(src, out),
+        PixelFormat::Rgb8 => row_of::<3>(src, out),
+        PixelFormat::Rgba8 => row_of::<4>(src, out),
     }
 }
 
 // All rows of a picture that passed the checks.
-fn gray_rows(data: &[u8], w: usize, h: usize, stride: usize, step: usize, gray: &mut [u8])
-    requires { GrayPassed (length «data».now) w h stride step (length gray.old) }
-    ensures { gray.new ≡ filled (w * h) (gray_at «data».now w stride step) gray.old }
+fn gray_rows(data: &[u8], w: usize, h: usize, stride: usize, format: PixelFormat, gray: &mut [u8])
+    requires { GrayPassed (length «data».now) w h stride (channels_of format) (length gray.old) }
+    ensures { gray.new ≡ filled (w * h) (gray_at «data».now w stride (channels_of format)) gray.old }
 {
+    let row = w * format.channels();
     for y in 0..h {
         let from = y * stride;
         let at = y * w;
-        gray_row(&data[from..from + w * step], step, &mut gray[at..at + w]);
+        gray_row(&data[from..from + row], format, &mut gray[at..at + w]);
     }
 }
 
@@ -106,13 +123,13 @@ pub fn gray_buffer(
     ensures number { number_of result ≡ gray_refusal (length «data».now) width height stride format (length gray.old) }
     ensures written { gray.new ≡ gray_written «data».now width height stride format gray.old }
 {
-    check_gray(data.len(), width, height, stride, format, gray.len())?;
+    let known = checked_format(data.len(), width, height, stride, format, gray.len())?;
     gray_rows(
         data,
         width as usize,
         height as usize,
         stride as usize,
-        format as usize,
+        known,
         gray,
     );
     Ok(())

@@ -5,15 +5,15 @@ use Rattle.image.specs.Gray.{gray_written}
 use Rattle.image.proofs.GrayLaws.{passes}
 use Rattle.image.proofs.gray.gray_buffer.Goals as goal
 
-pub returns-in_err-check_gray : goal.returns-in_err-check_gray
+pub returns-in_err-known : goal.returns-in_err-known
 unfolding gray_written
-returns-in_err-check_gray c =
-    let r = c.in_err-check_gray.ensures in
+returns-in_err-known c =
+    let r = c.in_err-known.ensures.number in
     record { number = same_number _ _ c.from_residual.ensures.1 ∙ r; written = unless_error _ _ _ _ r }
 
 pub gray_rows-requires : goal.gray_rows-requires
-gray_rows-requires c = passes _ _ _ _ _ _ c.ranges.stride.fits (sym c.in_ok-check_gray.ensures)
+gray_rows-requires c = rw c.in_ok-known.ensures.format (passes _ _ _ _ _ _ c.ranges.stride.fits (sym c.in_ok-known.ensures.number))
 
 pub returns : goal.returns
 unfolding gray_written
-returns c = record { number = c.in_ok-check_gray.ensures; written = c.gray_rows.ensures ∙ unless_done _ _ _ (sym c.in_ok-check_gray.ensures) }
+returns c = record { number = c.in_ok-known.ensures.number; written = (rw c.in_ok-known.ensures.format at c.gray_rows.ensures) ∙ unless_done _ _ _ (sym c.in_ok-known.ensures.number) }

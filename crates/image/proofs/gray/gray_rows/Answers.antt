@@ -5,6 +5,7 @@ use native.Mathlib.Nat.{zero-mul}
 use lib.ListN.{length}
 use Rattle.lists.proofs.Tabulate.{filled_none, length_part, filled_row}
 use Rattle.lists.proofs.Numbers.{next_row}
+use Rattle.image.specs.Gray.{channels_of}
 use Rattle.image.proofs.GrayLaws.{turn, gray_row-at}
 use Rattle.image.proofs.gray.gray_rows.Goals as goal
 
@@ -19,5 +20,5 @@ loop-y-preserved c =
     let long : l.y * a.w + a.w ≤ length l.gray = omega (arith, h.1) in
     filled_row (l.y * a.w) a.w _ _ a.gray.now l.gray _ l.invariant
     (rw (length_part (l.y * a.w) a.w l.gray long) at c.gray_row.ensures)
-    (λ i k. gray_row-at a.«data».now a.w a.stride a.step l.y i c.requires.format k)
+    (λ i k. rw c.channels.ensures (gray_row-at a.«data».now a.w a.stride (channels_of a.format) l.y i c.requires.format k))
     ∙ rw next_row

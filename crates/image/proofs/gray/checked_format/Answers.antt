@@ -1,4 +1,4 @@
--- `image::gray::check_gray` meets its contract. Assumes nothing.
+-- `image::gray::checked_format` meets its contract. Assumes nothing.
 use borrow.Author.Tests.{lt-ltb, le-ltb}
 use native.Mathlib.Omega.{arith}
 use mathlib.Core.Path.{◌≡◌, refl, sym, ap, ◌∙◌}
@@ -8,8 +8,8 @@ use Rattle.lcr_core.specs.Outcome.{first_of, sides_refusal}
 use Rattle.lcr_core.proofs.Checks.{refused_on, check_refuses, check_passes, sides_known}
 use Rattle.image.specs.Gray.{is_nothing, unknown_format, short_picture, gray_checks, gray_refusal}
 use Rattle.image.proofs.GrayLaws.{found_byte}
-use Rattle.image.proofs.gray.check_gray.Goals.{After-channels, After-short_picture, In-Some, Else-short_picture}
-use Rattle.image.proofs.gray.check_gray.Goals as goal
+use Rattle.image.proofs.gray.checked_format.Goals.{After-channels, After-short_picture, In-Some, Else-short_picture}
+use Rattle.image.proofs.gray.checked_format.Goals as goal
 
 -- the channels of a known format are its byte
 step : (c : After-channels) → c.channels.result ≡ c.args.format
@@ -33,13 +33,13 @@ passed_4 c =
     let a = c.args in
     check_passes 3 (gray_checks a.len a.width a.height a.stride a.format a.room) _ _ refl (passed_3 (goal.at.Else-short_picture c).In-Some) (sym c.if-short_picture.false ∙ tested (goal.at.Else-short_picture c).After-short_picture)
 
-pub returns-in_err-check_sides : goal.returns-in_err-check_sides
+pub returns-in_err-check_sides-clause-number : goal.returns-in_err-check_sides-clause-number
 unfolding gray_refusal sides_refusal
-returns-in_err-check_sides c = let a = c.args in refused_on _ _ c.from_residual.ensures.1 2 (gray_checks a.len a.width a.height a.stride a.format a.room) c.in_err-check_sides.ensures
+returns-in_err-check_sides-clause-number c = let a = c.args in refused_on _ _ c.from_residual.ensures.1 2 (gray_checks a.len a.width a.height a.stride a.format a.room) c.in_err-check_sides.ensures
 
-pub returns-in_default : goal.returns-in_default
+pub returns-in_default-clause-number : goal.returns-in_default-clause-number
 unfolding gray_refusal unknown_format sides_refusal
-returns-in_default c =
+returns-in_default-clause-number c =
     let a = c.args in
     check_refuses 2 (gray_checks a.len a.width a.height a.stride a.format a.room) _ _ refl c.in_ok-check_sides.ensures (sym (ap is_nothing (sym c.from_byte.ensures ∙ c.in_default.is)))
 
@@ -48,25 +48,25 @@ short_picture-requires c =
     let s = sides_known c.args.width c.args.height c.in_ok-check_sides.ensures in
     omega (arith, step c)
 
-pub returns-then-short_picture : goal.returns-then-short_picture
+pub returns-then-short_picture-clause-number : goal.returns-then-short_picture-clause-number
 unfolding gray_refusal
-returns-then-short_picture c =
+returns-then-short_picture-clause-number c =
     let a = c.args in
-    check_refuses 3 (gray_checks a.len a.width a.height a.stride a.format a.room) _ _ refl (passed_3 (goal.at.returns-then-short_picture c).In-Some) (sym c.if-short_picture.true ∙ tested (goal.at.returns-then-short_picture c).After-short_picture)
+    check_refuses 3 (gray_checks a.len a.width a.height a.stride a.format a.room) _ _ refl (passed_3 (goal.at.returns-then-short_picture-clause-number c).In-Some) (sym c.if-short_picture.true ∙ tested (goal.at.returns-then-short_picture-clause-number c).After-short_picture)
 
 pub overflow_mul-width : goal.overflow_mul-width
 overflow_mul-width c =
     let s = sides_known c.args.width c.args.height c.in_ok-check_sides.ensures in
     omega (arith, mul_bound c.args.width c.args.height 4096 4096 s.w_most s.h_most)
 
-pub returns-then-room-width : goal.returns-then-room-width
+pub returns-then-room-width-clause-number : goal.returns-then-room-width-clause-number
 unfolding gray_refusal
-returns-then-room-width c =
+returns-then-room-width-clause-number c =
     let a = c.args in
-    check_refuses 4 (gray_checks a.len a.width a.height a.stride a.format a.room) _ _ refl (passed_4 (goal.at.returns-then-room-width c).Else-short_picture) (sym (lt-ltb _ _ c.if-room-width.true))
+    check_refuses 4 (gray_checks a.len a.width a.height a.stride a.format a.room) _ _ refl (passed_4 (goal.at.returns-then-room-width-clause-number c).Else-short_picture) (sym (lt-ltb _ _ c.if-room-width.true))
 
-pub returns : goal.returns
+pub returns-clause-number : goal.returns-clause-number
 unfolding gray_refusal
-returns c =
+returns-clause-number c =
     let a = c.args in
-    check_passes 4 (gray_checks a.len a.width a.height a.stride a.format a.room) _ _ refl (passed_4 (goal.at.returns c).Else-short_picture) (sym (le-ltb _ _ c.if-room-width.false))
+    check_passes 4 (gray_checks a.len a.width a.height a.stride a.format a.room) _ _ refl (passed_4 (goal.at.returns-clause-number c).Else-short_picture) (sym (le-ltb _ _ c.if-room-width.false))
