@@ -1,5 +1,5 @@
 // The unsigned numbers that have up to eight bytes.
-ghost use Rattle.std.specs.Prelude.{◌≡◌, ℕ, ◌^◌, ◌<◌, ◌≤◌};
+ghost use Rattle.std.specs.Prelude.{◌≡◌, ℕ, ◌%◌, ◌^◌, ◌≤◌};
 ghost use Rattle.std.proofs.Common.{rules};
 
 // A number of SIZE bytes, which u64 holds.
@@ -10,9 +10,9 @@ pub trait Unsigned: Copy {
 
     ghost value: { Self → ℕ };
 
+    // The number of n's SIZE lowest bytes.
     fn from_u64(n: u64) -> Self
-        requires { n < 256 ^ SIZE }
-        ensures { value result ≡ n };
+        ensures { value result ≡ n % 256 ^ SIZE };
 
     fn to_u64(self) -> u64
         ensures { result ≡ value self };
@@ -28,7 +28,7 @@ impl Unsigned for u8 {
     ghost value = { λ x. x };
 
     fn from_u64(n: u64) -> u8 {
-        n as u8
+        (n % 256) as u8
     }
 
     fn to_u64(self) -> u64 {
@@ -46,7 +46,7 @@ impl Unsigned for u16 {
     ghost value = { λ x. x };
 
     fn from_u64(n: u64) -> u16 {
-        n as u16
+        (n % 65536) as u16
     }
 
     fn to_u64(self) -> u64 {
@@ -64,7 +64,7 @@ impl Unsigned for u32 {
     ghost value = { λ x. x };
 
     fn from_u64(n: u64) -> u32 {
-        n as u32
+        (n % 4294967296) as u32
     }
 
     fn to_u64(self) -> u64 {

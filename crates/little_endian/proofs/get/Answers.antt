@@ -1,5 +1,6 @@
-use mathlib.Core.Path.{◌≡◌}
-use Prim.Native.Nat.{◌-◌, ◌≤◌, ◌<◌}
+use mathlib.Core.Path.{◌≡◌, ◌∙◌}
+use Prim.Native.Nat.{◌+◌, ◌-◌, ◌≤◌, ◌<◌}
+use native.Mathlib.Nat.{mod-eq_of_lt}
 use native.Mathlib.Omega.{arith}
 use Rattle.little_endian.specs.Bytes.{read_le}
 use Rattle.little_endian.proofs.Steps.{read-lt, read_below, read_fits}
@@ -27,7 +28,8 @@ loop-k-preserved g c =
     let p : 0 < c.loop-k.k = omega arith in
     rw (c.loop-k.invariant, c.byte.ensures) (read_below _ _ c.args.at c.args.s.now p e)
 
-pub from_u64-requires : goal.from_u64-requires
-from_u64-requires g c =
+pub returns : goal.returns
+returns g c =
     let e : g.T.Unsigned.SIZE - c.loop-k.k ≡ g.T.Unsigned.SIZE = omega arith in
-    rw (c.loop-k.invariant, e) (read-lt _ c.args.s.now _ c.type_inv.s)
+    let z : c.args.at + c.loop-k.k ≡ c.args.at = omega arith in
+    c.from_u64.ensures ∙ rw (c.loop-k.invariant, e, z) (mod-eq_of_lt (read-lt _ c.args.s.now _ c.type_inv.s))
