@@ -175,11 +175,10 @@ impl<'a> View<'a> {
     pub fn is_dark(&self, x: f32, y: f32) -> bool
         ensures { let s = self.now in result ≡ module_dark s.bits.now s.width s.height s.transform x y }
     {
-        let t = self.transform;
-        if t.strength == 0.0 {
-            return self.majority(|u, v| t.place(u, v), x, y);
+        if self.transform.strength == 0.0 {
+            return self.majority(|u, v| self.transform.place(u, v), x, y);
         }
-        self.majority(|u, v| t.apply(u, v), x, y)
+        self.majority(|u, v| self.transform.apply(u, v), x, y)
     }
 
     // The better of the best site so far and the site at offset (x, y) from the centre (c, c).
