@@ -76,6 +76,7 @@ fn marks_of<'a>(edges: &'a [u8], nears: &'a [u8], kind: usize) -> &'a [u8]
 }
 
 // The level of the block in column x and row y: the first of four windows that holds a marked block gives it, otherwise it is the global level.
+// The loop yields its level by `break`, the form that document 01 names.
 // It stays a call: most blocks need no window, and inlined its bounds are worked out for each of them, which takes 4 % more instructions where few are marked.
 #[inline(never)]
 pub fn block_level(grid: Grid, x: usize, y: usize, global: u8) -> u8

@@ -53,6 +53,7 @@ fn next_hit(bits: &[u8], start: u32, stride: u32, len: u16, window: Window) -> O
     requires { FitsIn len window }
     ensures { NextIs (pixel bits.now start stride) len window result }
 {
+    // A turn is two runs long, so no range counts it.
     let mut w = window;
     while w.at < len {
         let light = run_on(bits, start, stride, w.at, len - w.at, false);
