@@ -1,64 +1,90 @@
 -- What the calls answer, from what they find. Assumes nothing.
-use mathlib.Core.Path.{◌≡◌, sym, ◌∙◌, ap}
+use mathlib.Core.Path.{◌≡◌, refl, sym, ◌∙◌, ap}
+use mathlib.Core.Bool.{Bool, true, false, cond}
 use mathlib.Core.List.{List, [], ◌∷◌}
-use Prim.Native.Nat.{ℕ, suc}
+use Prim.Native.Nat.{ℕ}
 use native.Mathlib.Omega.{arith}
-use lib.Dec.{ltb}
 use lib.ListN.{length, get_or}
-use borrow.Author.Tests.{lt-ltb}
-use Rattle.lcr_core.specs.Outcome.{unless}
-use Rattle.std.specs.Prelude.{Ok, Err}
-use Rattle.lcr_core.specs.Outcome.{refusal_number}
+use Rattle.std.specs.Prelude.{Option, Some, None, Result, Ok, Err, IsErrAnd}
+use Rattle.lcr_core.specs.Answer.{checked}
+use Rattle.lcr_core.specs.Outcome.{Check, number_of}
 use Rattle.lcr_core.specs.declared.Refusal.{Refusal}
-use Rattle.lcr_core.proofs.Checks.{some_number, unless-refused}
-use Rattle.binary.specs.Refusal.{bits_refusal}
+use Rattle.lcr_core.proofs.Answers.{number_checked, checked_passed, refused_by}
+use Rattle.binary.specs.Refusal.{bits_checks}
 use Rattle.geometry.specs.declared.Finder.{Finder}
 use Rattle.finders.specs.declared.Finders.{Finders}
-use Rattle.finders.specs.Answer.{table_of as finders_table, find_refusal, finders_of, answer_of}
+use Rattle.finders.specs.Answer.{table_of as finders_table, find_checks, find_refusal, finders_of, answer_of}
+use Rattle.finders.specs.Search.{found}
 use Rattle.finders.proofs.Outcomes.{answer_table, answer_refusal}
 use Rattle.ranking.specs.declared.Eight.{Eight}
 use Rattle.ranking.specs.Ranking.{in_use, eight_of}
-use Rattle.candidates.specs.declared.Answer.{Answer}
 use Rattle.candidates.specs.declared.Detection.{Detection}
 use Rattle.candidates.specs.declared.Detections.{Detections}
-use Rattle.candidates.specs.Candidates.{detections_of, table_of, answered, first, from_answer, detect_answer, detect_first}
+use Rattle.candidates.specs.Candidates.{detections_of, table_of, table_in, first, from_answer, detect_answer, detect_first}
 use Rattle.candidates.proofs.Tables.{detections_in_lem}
-
--- ---- a refusal number, and the detections where it is 0
-pub refused : (n : ℕ) (ds : List Detection) (r : Detections) → (n ≡ 0 → ⊥) → r ≡ table_of [] → record { refusal = n; detections = r } ≡ answered n ds
-refused n ds r h e = ap (λ (r : Detections). record { refusal = n; detections = r }) (e ∙ ap table_of (unless-refused n [] ds h))
-
-pub not-refused : (n : ℕ) (ds : List Detection) (r : Detections) → n ≡ 0 → r ≡ table_of ds → record { refusal = 0; detections = r } ≡ answered n ds
-not-refused n ds r h e = rw (h, e)
 
 -- ---- the answer of a lent list
 pub from-eight : (bits : List ℕ) (w h : ℕ) (fs : List Finder) (t : Eight) → t ≡ eight_of fs → from_answer bits w h (in_use t) ≡ from_answer bits w h fs
 unfolding from_answer
-from-eight bits w h fs t e = ap (answered (bits_refusal (length bits) w h)) (detections_in_lem bits w h fs t e)
+from-eight bits w h fs t e = ap (λ (ds : List Detection). checked (bits_checks (length bits) w h) (table_of ds)) (detections_in_lem bits w h fs t e)
+
+-- ---- what holds of no detection and of a table holds of what is answered with that table
+pub in_checked : (P : Detections → Type 0) (cs : List Check) (t : Detections) → P (table_of []) → P t → P (table_in (checked cs t))
+in_checked P [] t none some = some
+in_checked P (c ∷ cs) t none some = go c.refuses (in_checked P cs t none some)
+  where
+    go : (b : Bool) → P (table_in (checked cs t)) → P (table_in (cond b (Err c.refusal) (checked cs t)))
+    go true k = none
+    go false k = k
 
 -- ---- the answer of a search, and the detections of its finders
-first-is : (n : ℕ) (ds : List Detection) (d : Detection) (a : Answer) → a ≡ record { refusal = n; detections = table_of ds }
-    → record { refusal = a.refusal; found = ltb 0 a.detections.count; detection = get_or a.detections.at 0 d } ≡ first n ds
-first-is n [] d a e = rw e
-first-is n (x ∷ ds) d a e = rw (e, lt-ltb 0 (suc (length ds)) (omega arith))
-
 module _ (bits : List ℕ) (w h : ℕ) where
+  abbrev checks : List Check
+  checks = find_checks (length bits) w h (found bits w h)
+
+  abbrev table : Detections
+  table = table_of (detections_of bits w h (finders_of bits w h))
+
+  abbrev one : Option Detection
+  one = first (detections_of bits w h (finders_of bits w h))
+
+  -- its number is the search's
+  pub detect_number : number_of (detect_answer bits w h) ≡ find_refusal bits w h
+  unfolding detect_answer find_refusal
+  detect_number = number_checked checks table
+
   pub searched : (found : Finders) (t : Eight) → Ok found ≡ answer_of bits w h → ((gs : List Finder) → found ≡ finders_table gs → t ≡ eight_of gs)
-      → (r : Answer) → r ≡ answered 0 (detections_of bits w h (in_use t)) → r ≡ detect_answer bits w h
-  unfolding detect_answer
+      → (r : Detections) → r ≡ table_of (detections_of bits w h (in_use t)) → Ok r ≡ detect_answer bits w h
+  unfolding detect_answer find_refusal
   searched found t e k r g =
       let f = answer_table bits w h found e in
-      g ∙ ap (answered 0) (detections_in_lem bits w h (finders_of bits w h) t (k (finders_of bits w h) f.1)) ∙ ap (λ (n : ℕ). answered n (detections_of bits w h (finders_of bits w h))) (sym f.0)
+      ap Ok (g ∙ ap table_of (detections_in_lem bits w h (finders_of bits w h) t (k (finders_of bits w h) f.1))) ∙ checked_passed checks table (sym f.0)
 
-  pub search_refused : (refusal : Refusal) (n : ℕ) (ds : Detections) → Err refusal ≡ answer_of bits w h → n ≡ refusal_number refusal → ds ≡ table_of []
-      → record { refusal = n; detections = ds } ≡ detect_answer bits w h
-  unfolding detect_answer
-  search_refused refusal n ds e f g =
-      let z : n ≡ find_refusal bits w h = f ∙ answer_refusal bits w h refusal e in
-      refused n (detections_of bits w h (finders_of bits w h)) ds (λ z. some_number refusal (sym f ∙ z)) g ∙ ap (λ (n : ℕ). answered n (detections_of bits w h (finders_of bits w h))) z
+  pub search_refused : (answer : Result Detections Refusal) (r : Refusal) → IsErrAnd answer (λ e. e ≡ r) → Err r ≡ answer_of bits w h → answer ≡ detect_answer bits w h
+  unfolding detect_answer find_refusal
+  search_refused answer r i e = refused_by answer r i checks table (answer_refusal bits w h r e)
 
   -- the first of them
-  pub first_found : (d : Detection) (a : Answer) → a ≡ detect_answer bits w h
-      → record { refusal = a.refusal; found = ltb 0 a.detections.count; detection = get_or a.detections.at 0 d } ≡ detect_first bits w h
+  pub first_refused : (answer : Result (Option Detection) Refusal) (r : Refusal) → IsErrAnd answer (λ e. e ≡ r) → Err r ≡ detect_answer bits w h → answer ≡ detect_first bits w h
   unfolding detect_answer detect_first
-  first_found d a e = let n = find_refusal bits w h in first-is n (unless n [] (detections_of bits w h (finders_of bits w h))) d a e
+  first_refused answer r i e = refused_by answer r i checks one (ap number_of e ∙ number_checked checks table)
+
+  -- the table that is answered
+  answered : (t : Detections) → Ok t ≡ detect_answer bits w h → (0 ≡ find_refusal bits w h) × (t ≡ table_of (detections_of bits w h (finders_of bits w h)))
+  unfolding detect_answer find_refusal
+  answered t e =
+      let n : 0 ≡ find_refusal bits w h = ap number_of e ∙ number_checked checks table in
+      let x = checked_passed checks table n in
+      (n, cc (e, x))
+
+  first_is : (ds : List Detection) (t : Detections) → t ≡ table_of ds → (d : Detection) → (t.count ≡ 0 → None ≡ first ds) × ((t.count ≡ 0 → ⊥) → Some (get_or t.at 0 d) ≡ first ds)
+  first_is [] t e d = ((λ z. refl), (λ z. absurd (z (ap (λ (t : Detections). t.count) e))))
+  first_is (x ∷ ds) t e d = ((λ z. absurd (omega (arith, z, ap (λ (t : Detections). t.count) e))), (λ z. rw e refl))
+
+  pub first_none : (t : Detections) (d : Detection) → Ok t ≡ detect_answer bits w h → t.count ≡ 0 → Ok None ≡ detect_first bits w h
+  unfolding detect_first find_refusal
+  first_none t d e z = let a = answered t e in ap Ok ((first_is _ t a.1 d).0 z) ∙ checked_passed checks one a.0
+
+  pub first_found : (t : Detections) (d : Detection) → Ok t ≡ detect_answer bits w h → (t.count ≡ 0 → ⊥) → Ok (Some (get_or t.at 0 d)) ≡ detect_first bits w h
+  unfolding detect_first find_refusal
+  first_found t d e z = let a = answered t e in ap Ok ((first_is _ t a.1 d).1 z) ∙ checked_passed checks one a.0

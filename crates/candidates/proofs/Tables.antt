@@ -1,12 +1,12 @@
 -- The table of detections, triple by triple, and the tables of finders that they come from. Assumes nothing.
+use Rattle.std.specs.Prelude.{Option, Some, None}
 use mathlib.Core.Path.{◌≡◌, refl, sym, ◌∙◌, ap}
-use mathlib.Core.Bool.{true, false}
 use mathlib.Core.List.{List, [], ◌∷◌, ◌++◌, append-nil}
 use Prim.Native.Nat.{ℕ, ◌+◌, ◌≤◌, ◌<◌, min}
 use native.Mathlib.Omega.{arith}
 use lib.ListN.{length, get_or, set, take, length-append, length-take}
 use lib.Seq.{get_or-take, take_all}
-use Rattle.lists.specs.Lists.{padded, flat_map, tabulate}
+use Rattle.lists.specs.Lists.{padded, flat_map}
 use Rattle.lists.proofs.Tabulate.{tabulate_ext}
 use Rattle.lists.proofs.Padded.{get_d_any, get_or-padded, get_or_table, padded_more}
 use Rattle.lists.proofs.Filters.{each_map}
@@ -22,7 +22,6 @@ use Rattle.ranking.specs.declared.Triple.{Triple}
 use Rattle.ranking.specs.Ranking.{finder_at, ranked, ranked_table, zero_triple, in_use, eight_of}
 use Rattle.ranking.proofs.Theorems.{Admissible, before, ranked_only, ranked-admissible, at_most_three}
 use Rattle.ranking.proofs.Tables.{in_use_lem, ranked-eight}
-use Rattle.candidates.specs.declared.Built.{Built}
 use Rattle.candidates.specs.declared.Detection.{Detection}
 use Rattle.candidates.specs.declared.Detections.{Detections}
 use Rattle.candidates.specs.Detection.{build_of, zero_detection}
@@ -31,16 +30,12 @@ use Rattle.candidates.specs.Candidates.{corners_of, kept, detection_of, detectio
 use Rattle.candidates.proofs.Kept.{kept_few}
 
 -- ---- one more detection
-module _ (found : Detections) (b : Built) (ds : List Detection) (e : found ≡ table_of ds) where
-  pub pushed : found.count < 3 → b.found ≡ true → record { count = found.count + 1; at = set found.at found.count b.detection } ≡ table_of (ds ++ kept b)
-  pushed l t =
-      let m : length ds < 3 = rw e at l in
-      let q : set (padded 3 zero_detection ds) (length ds) b.detection ≡ padded 3 zero_detection (ds ++ (b.detection ∷ [])) = padded_more 3 zero_detection ds b.detection m in
-      let n : length ds + 1 ≡ length (ds ++ (b.detection ∷ [])) = sym (length-append ds (b.detection ∷ [])) in
-      rw (e, t) (rw (q, n))
-
-  pub not_pushed : b.found ≡ false → found ≡ table_of (ds ++ kept b)
-  not_pushed t = rw (t, append-nil) e
+pub pushed : (found : Detections) (d : Detection) (ds : List Detection) → found ≡ table_of ds → found.count < 3 → record { count = found.count + 1; at = set found.at found.count d } ≡ table_of (ds ++ d ∷ [])
+pushed found d ds e l =
+    let m : length ds < 3 = rw e at l in
+    let q : set (padded 3 zero_detection ds) (length ds) d ≡ padded 3 zero_detection (ds ++ (d ∷ [])) = padded_more 3 zero_detection ds d m in
+    let n : length ds + 1 ≡ length (ds ++ (d ∷ [])) = sym (length-append ds (d ∷ [])) in
+    rw e (rw (q, n))
 
 -- ---- a triple's finders, read from the table. d is what the code would read past an array's end
 module _ (t : Eight) (long : length t.at ≡ 8) (s : Triple) (h : Within (in_use t) s) where
@@ -96,13 +91,20 @@ module _ (fs : List Finder) where
         let m : p < length (ranked fs) = rw ranked-count at l in
         rw (place_is p d l) (within p m)
 
-    pub one_more : (bits : List ℕ) (w h : ℕ) (p : ℕ) (d : Triple) → p < r.count → (c : Corners) → c ≡ corners_of fs (get_or r.at p d) → (b : Built) → b ≡ build_of bits w h c (get_or r.at p d).score
-        → (found more : Detections) → found ≡ table_of (first bits w h p) → ((ds : List Detection) → found ≡ table_of ds → more ≡ table_of (ds ++ kept b)) → more ≡ table_of (first bits w h (p + 1))
-    unfolding detection_of
-    one_more bits w h p d l c ec b eb found more g f =
-        let m : p < length (ranked fs) = rw ranked-count at l in
-        let q : kept b ≡ detection_of bits w h fs (at p) = ap kept (eb ∙ ap (λ (x : Corners). build_of bits w h x (get_or r.at p d).score) ec ∙ ap (λ (t : Triple). build_of bits w h (corners_of fs t) t.score) (place_is p d l)) in
-        f (first bits w h p) g ∙ ap table_of (ap (λ (l : List Detection). first bits w h p ++ l) q ∙ sym (flat_map-take (detection_of bits w h fs) (ranked fs) p zero_triple m))
+    -- what the ranked triple at place p gives
+    module _ (bits : List ℕ) (w h : ℕ) (p : ℕ) (d : Triple) (l : p < r.count) (c : Corners) (ec : c ≡ corners_of fs (get_or r.at p d)) (b : Option Detection) (eb : b ≡ build_of bits w h c (get_or r.at p d).score) where
+      next_of : (found : List Detection) → found ≡ first bits w h p ++ kept b → found ≡ first bits w h (p + 1)
+      unfolding detection_of
+      next_of found g =
+          let m : p < length (ranked fs) = rw ranked-count at l in
+          let q : kept b ≡ detection_of bits w h fs (at p) = ap kept (eb ∙ ap (λ (x : Corners). build_of bits w h x (get_or r.at p d).score) ec ∙ ap (λ (t : Triple). build_of bits w h (corners_of fs t) t.score) (place_is p d l)) in
+          g ∙ ap (λ (l : List Detection). first bits w h p ++ l) q ∙ sym (flat_map-take (detection_of bits w h fs) (ranked fs) p zero_triple m)
+
+      pub one_more : (x : Detection) → b ≡ Some x → (found more : Detections) → found ≡ table_of (first bits w h p) → ((ds : List Detection) → found ≡ table_of ds → more ≡ table_of (ds ++ x ∷ [])) → more ≡ table_of (first bits w h (p + 1))
+      one_more x k found more g f = f (first bits w h p) g ∙ ap table_of (next_of _ (rw k refl))
+
+      pub none_more : b ≡ None → (found : Detections) → found ≡ table_of (first bits w h p) → found ≡ table_of (first bits w h (p + 1))
+      none_more k found g = g ∙ ap table_of (next_of _ (rw (k, append-nil) refl))
 
     pub all_built : (bits : List ℕ) (w h : ℕ) (p : ℕ) (found : Detections) → p ≡ r.count → found ≡ table_of (first bits w h p) → found ≡ table_of (detections_of bits w h fs)
     unfolding detections_of

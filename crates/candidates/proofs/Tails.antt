@@ -1,7 +1,8 @@
 -- Of a bit picture of w × h pixels nothing beyond its (w × h + 7) / 8 bytes is read, by the search, by the alignment functions and by the detections.
 -- Assumes nothing.
-use Rattle.std.specs.Prelude.{Option, Some, None, Result}
+use Rattle.std.specs.Prelude.{Option, Some, None, Result, option_and_then}
 use Rattle.std.specs.Result.{result_unwrap_or}
+use Rattle.lcr_core.specs.Answer.{checked}
 use Rattle.lcr_core.specs.Outcome.{Check}
 use Rattle.lcr_core.specs.declared.Refusal.{Refusal}
 use mathlib.Core.Path.{◌≡◌, refl, sym, ap, ◌∙◌, fun_ext}
@@ -23,7 +24,6 @@ use Rattle.binary.specs.Line.{row, column, run, run_back, run_before, run_after,
 use Rattle.binary.proofs.Ends.{end_of, before_end, after_end}
 use Rattle.binary.specs.Refusal.{short_bits}
 use Rattle.confirm.specs.Confirm.{limit_of, side_before, side_after, counted_of, any_cut, core_of, vertical_by, horizontal_by, row_by, column_by, confirmed_by, confirm_vertical, confirm_horizontal, row_confirmed, column_confirmed, confirmed_on}
-use Rattle.std.specs.Prelude.{Option, Some, None, option_and_then}
 use Rattle.confirm.proofs.Inside.{dark_inside}
 use Rattle.transform.specs.Apply.{applied}
 use Rattle.transform.specs.declared.Point.{Point}
@@ -37,8 +37,7 @@ use Rattle.finders.specs.Hits.{Hit, runs, hits, line_hits}
 use Rattle.finders.specs.Held.{Sighting, Held, held, merge_next}
 use Rattle.finders.specs.Search.{max_finders, sighting, seen, row_sightings_by, column_sightings_by, sightings_by, found_by, sightings, found}
 use Rattle.finders.proofs.Axes.{second_same}
-use Rattle.finders.specs.Rank.{ranked}
-use Rattle.finders.specs.Answer.{held_list, find_refusal, finders_of}
+use Rattle.finders.specs.Answer.{find_checks, find_refusal, finders_after, finders_of}
 use Rattle.rows.specs.Rows.{pos_part, neg_part, column_end, row_end, radius_of, window_of, middle_of, column_runs, limit_of as rowsLimit, marker_at, confirm_of, starts_at, row_runs, confirmed, seen_of, nearer_of, row_nearest, nearest_of, answer, find_of}
 use Rattle.rows.specs.declared.window.Window.{Window}
 use Rattle.alignment.specs.declared.Refined.{Refined}
@@ -49,9 +48,8 @@ use Rattle.alignment.proofs.Alike.{best_alike}
 use Rattle.ranking.specs.declared.Triple.{Triple}
 use Rattle.ranking.specs.Ranking.{ranked as rankedTriples}
 use Rattle.candidates.specs.declared.Detection.{Detection}
-use Rattle.candidates.specs.declared.Built.{Built}
-use Rattle.candidates.specs.Detection.{unrefined, by_fit, build_with, build_of, build_for}
-use Rattle.candidates.specs.Candidates.{corners_of, kept, detection_of, detections_of, answered, detect_answer}
+use Rattle.candidates.specs.Detection.{unrefined, build_with, build_of, build_for}
+use Rattle.candidates.specs.Candidates.{corners_of, kept, detection_of, detections_of, table_of, detect_answer}
 use Rattle.lcr_core.specs.declared.version.Version.{Version}
 
 -- ---- two lines that agree on their first len pixels
@@ -133,10 +131,10 @@ column_through down across x centre m =
     let y = to_unsigned 32 centre in option_and_then (λ cx. option_and_then (λ cy. Some (record { x = cx; y = cy })) (down (to_unsigned 32 cx) y m)) (across x y m)
 
 -- what a detection is made of: the marker by a transform, and the refinement from one
-abbrev build_by : (Transform → Option Point) → (Transform → Refined) → Corners → Float → ℕ → Built
+abbrev build_by : (Transform → Option Point) → (Transform → Refined) → Corners → Float → ℕ → Option Detection
 build_by locate refine c s v =
-    let made : Refined → Built = λ r. record { found = true; detection = record { finders = c; marker = r.marker; version = record { 0 = v }; transform = r.transform; score = s; mean = mean_of c.tl c.tr c.bl } } in
-    by_fit (built_fit c None v) (λ rough. by_fit (built_fit c (locate rough) v) (λ t. made (refine t)))
+    let made : Refined → Option Detection = λ r. Some (record { finders = c; marker = r.marker; version = record { 0 = v }; transform = r.transform; score = s; mean = mean_of c.tl c.tr c.bl }) in
+    option_and_then (λ rough. option_and_then (λ t. made (refine t)) (built_fit c (locate rough) v)) (built_fit c None v)
 
 -- the window of the search along rows lies in the picture
 end_within : (p : Point) (m : Float) (w h : ℕ) → (window_of p m w h).end ≤ w
@@ -289,6 +287,9 @@ module _ (a b : List ℕ) (w h : ℕ) (same : (k : ℕ) → k < w * h → dark_b
     alignment_same : (v : ℕ) → alignment_checks (length a) w h v ≡ alignment_checks (length b) w h v
     alignment_same v = rw short
 
+    checks_same : (s : Held) → find_checks (length a) w h s ≡ find_checks (length b) w h s
+    checks_same s = rw short
+
     six_same : find_refusal a w h ≡ find_refusal b w h
     unfolding find_refusal
     six_same = rw (short, found_same)
@@ -340,9 +341,9 @@ module _ (a b : List ℕ) (w h : ℕ) (same : (k : ℕ) → k < w * h → dark_b
     pub answer_same : detect_answer a w h ≡ detect_answer b w h
     unfolding detect_answer
     answer_same =
-        ap (λ (n : ℕ). answered n (detections_of a w h (finders_of a w h))) six_same
-        ∙ ap (λ (s : Held). answered (find_refusal b w h) (detections_of a w h (ranked (held_list s)))) found_same
-        ∙ ap (answered (find_refusal b w h)) (detections_same (finders_of b w h))
+        ap (λ (s : Held). checked (find_checks (length a) w h s) (table_of (detections_of a w h (finders_after s)))) found_same
+        ∙ ap (λ (cs : List Check). checked cs (table_of (detections_of a w h (finders_of b w h)))) (checks_same (found b w h))
+        ∙ ap (λ (ds : List Detection). checked (find_checks (length b) w h (found b w h)) (table_of ds)) (detections_same (finders_of b w h))
 
 -- ---- the bytes of the picture are enough
 module _ (bits : List ℕ) (w h : ℕ) where
@@ -362,7 +363,7 @@ module _ (bits : List ℕ) (w h : ℕ) where
   found_tail = found_same (take (bytes_of (w * h)) bits) bits w h bits_alike
 
   pub finders_tail : finders_of (take (bytes_of (w * h)) bits) w h ≡ finders_of bits w h
-  finders_tail = ap (λ (s : Held). ranked (held_list s)) found_tail
+  finders_tail = ap finders_after found_tail
 
   pub refusal_tail : find_refusal (take (bytes_of (w * h)) bits) w h ≡ find_refusal bits w h
   refusal_tail = six_same (take (bytes_of (w * h)) bits) bits w h bits_alike short_alike

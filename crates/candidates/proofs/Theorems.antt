@@ -1,7 +1,7 @@
 -- What the definitions say of the detections: in a call that isn't refused no step of `build_detection` is; `detect_candidates` is `candidates_from` of the
 -- picture's finders; there are three detections at most, and none of fewer than three finders. Assumes nothing.
 use Rattle.std.specs.Prelude.{Some, None, Option}
-use mathlib.Core.Path.{◌≡◌, refl, ap, ◌∙◌}
+use mathlib.Core.Path.{◌≡◌, refl, sym, ap, ◌∙◌}
 use mathlib.Core.Bool.{Bool, true, false, cond, ◌||◌}
 use mathlib.Core.List.{List, [], ◌∷◌}
 use Prim.Native.Nat.{ℕ, ◌≤◌, ◌<◌}
@@ -14,10 +14,10 @@ use Rattle.lists.specs.Lists.{Each, flat_map}
 use Rattle.lists.proofs.Folds.{flat_map_few}
 use Rattle.lcr_core.specs.Outcome.{number_of, zero_side, large_side}
 use Rattle.lcr_core.proofs.Checks.{first_passes}
-use Rattle.lcr_core.proofs.Answers.{number_checked}
+use Rattle.lcr_core.proofs.Answers.{number_checked, checked_passed}
 use Rattle.lcr_core.specs.declared.version.Version.{Version}
 use Rattle.lcr_core.specs.Version.{valid, version_checks}
-use Rattle.binary.specs.Refusal.{short_bits, bits_refusal}
+use Rattle.binary.specs.Refusal.{short_bits, bits_checks, bits_refusal}
 use Rattle.transform.specs.declared.Transform.{Transform}
 use Rattle.geometry.specs.declared.Corners.{Corners}
 use Rattle.geometry.specs.declared.Finder.{Finder}
@@ -25,12 +25,13 @@ use Rattle.geometry.specs.Estimate.{side_in, nearest_version, estimate_of}
 use Rattle.geometry.specs.Build.{built_of}
 use Rattle.geometry.proofs.Theorems.{from_1_to_32}
 use Rattle.alignment.specs.Alignment.{alignment_checks, alignment_refusal, locate_of, refine_of}
-use Rattle.finders.specs.Answer.{find_refusal, finders_of}
+use Rattle.finders.specs.Answer.{find_checks, find_refusal, finders_of}
+use Rattle.finders.specs.Search.{found}
 use Rattle.ranking.specs.declared.Triple.{Triple}
 use Rattle.ranking.specs.Ranking.{ranked}
 use Rattle.ranking.proofs.Theorems.{Admissible, before, ranked_only, at_most_three}
 use Rattle.candidates.specs.Detection.{build_of}
-use Rattle.candidates.specs.Candidates.{corners_of, detection_of, detections_of, from_answer, detect_answer}
+use Rattle.candidates.specs.Candidates.{corners_of, detection_of, detections_of, table_of, from_answer, detect_answer}
 use Rattle.candidates.proofs.Kept.{kept_few}
 use Rattle.transform.specs.declared.Point.{Point}
 
@@ -84,8 +85,10 @@ found_passed bits w h e =
     rw (p.0, q.0, r.0)
 
 pub same_answer : (bits : List ℕ) (w h : ℕ) → find_refusal bits w h ≡ 0 → detect_answer bits w h ≡ from_answer bits w h (finders_of bits w h)
-unfolding detect_answer from_answer
-same_answer bits w h e = rw (e, found_passed bits w h e)
+unfolding detect_answer from_answer find_refusal bits_refusal
+same_answer bits w h e =
+    let t = table_of (detections_of bits w h (finders_of bits w h)) in
+    sym (checked_passed (find_checks (length bits) w h (found bits w h)) t (sym e)) ∙ checked_passed (bits_checks (length bits) w h) t (sym (found_passed bits w h e))
 
 -- ---- three at most, and none of fewer than three finders
 pub three_at_most : (bits : List ℕ) (w h : ℕ) (fs : List Finder) → length (detections_of bits w h fs) ≤ 3

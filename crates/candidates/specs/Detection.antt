@@ -1,7 +1,7 @@
 -- What three ordered finders give when built: `build_detection` of document 000, step by step (document 01: "A ranked triple can't be built exactly where
 -- the rules of `build_detection` .. give none for its finders and the picture's bits"). In a call that isn't refused no step is (proofs/Theorems.antt).
 -- Document 02, N8: "Each detection carries its triple's score and mean module". Definitions only.
-use Rattle.std.specs.Prelude.{true, false, List, ℕ, Float, Option, Some, None}
+use Rattle.std.specs.Prelude.{List, ℕ, Float, Option, Some, None, option_and_then}
 use Rattle.std.specs.Result.{result_unwrap_or}
 use Rattle.float.specs.Constants.{f0}
 use Rattle.transform.specs.declared.Transform.{Transform}
@@ -14,7 +14,6 @@ use Rattle.geometry.specs.Build.{built_fit}
 use Rattle.alignment.specs.Alignment.{locate_of, refine_of}
 use Rattle.alignment.specs.declared.Refined.{Refined}
 use Rattle.candidates.specs.declared.Detection.{Detection}
-use Rattle.candidates.specs.declared.Built.{Built}
 use Rattle.transform.specs.declared.Point.{Point}
 use Rattle.lcr_core.specs.declared.version.Version.{Version}
 
@@ -34,18 +33,9 @@ zero_detection =
 abbrev pub WithoutLens : Detection → Type 0
 WithoutLens d = Plain d.transform
 
--- no detection
-abbrev pub none : Built
-none = record { found = false; detection = zero_detection }
-
 -- what a refused refinement leaves, and there is none in a call that is not refused
 abbrev pub unrefined : Refined
 unrefined = record { transform = zero_transform; marker = None }
-
--- what is built by the transform, if there is one
-abbrev pub by_fit : Option Transform → (Transform → Built) → Built
-by_fit None build = none
-by_fit (Some t) build = build t
 
 -- of a picture of w × h pixels and finders c
 module _ (bits : List ℕ) (w h : ℕ) (c : Corners) where
@@ -64,20 +54,19 @@ module _ (bits : List ℕ) (w h : ℕ) (c : Corners) where
   -- of a triple with the score s
   module _ (s : Float) where
     -- the detection, its transform and its marker refined once from the transform t, with the score and the mean module
-    abbrev pub refined_from : Transform → ℕ → Built
+    abbrev pub refined_from : Transform → ℕ → Option Detection
     refined_from t v =
         let r = result_unwrap_or (refine_of bits w h c v t mean) unrefined in
-        record { found = true; detection = record { finders = c; marker = r.marker; version = record { 0 = v }; transform = r.transform; score = s; mean = mean } }
+        Some (record { finders = c; marker = r.marker; version = record { 0 = v }; transform = r.transform; score = s; mean = mean })
 
     -- for version v: a rough transform through the finders alone, the marker by it, and the transform through both
-    unfoldable pub build_with : ℕ → Built
-    build_with v = by_fit (fit_with None v) (λ rough. by_fit (fit_with (marker_by rough v) v) (λ t. refined_from t v))
+    unfoldable pub build_with : ℕ → Option Detection
+    build_with v = option_and_then (λ rough. option_and_then (λ t. refined_from t v) (fit_with (marker_by rough v) v)) (fit_with None v)
 
     -- for the version that the finders imply, if they imply one
-    abbrev pub build_for : Option Version → Built
-    build_for None = none
-    build_for (Some v) = build_with v.0
+    abbrev pub build_for : Option Version → Option Detection
+    build_for = option_and_then (λ v. build_with v.0)
 
     -- `build_detection`
-    unfoldable pub build_of : Built
+    unfoldable pub build_of : Option Detection
     build_of = build_for (estimate_of c)

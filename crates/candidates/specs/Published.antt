@@ -1,21 +1,24 @@
 -- The detections in a picture over the finders of document 000's search (document 02, N7: "In the finder search and what follows from it"): what the theorems
 -- on equality speak of, and no contract does. Definitions only.
-use Rattle.std.specs.Prelude.{List, [], ℕ}
-use Rattle.lcr_core.specs.Outcome.{unless}
-use Rattle.finders.specs.Published.{published_refusal, published_finders}
-use Rattle.candidates.specs.declared.Answer.{Answer}
+use Rattle.std.specs.Prelude.{List, ℕ, Option, Result, length}
+use Rattle.lcr_core.specs.Answer.{checked}
+use Rattle.lcr_core.specs.declared.Refusal.{Refusal}
+use Rattle.finders.specs.Answer.{find_checks}
+use Rattle.confirm.specs.Confirm.{counted_of}
+use Rattle.finders.specs.Search.{found_by}
+use Rattle.finders.specs.Published.{published_finders}
 use Rattle.candidates.specs.declared.Detection.{Detection}
-use Rattle.candidates.specs.declared.First.{First}
-use Rattle.candidates.specs.Candidates.{detections_of, answered, first}
+use Rattle.candidates.specs.declared.Detections.{Detections}
+use Rattle.candidates.specs.Candidates.{detections_of, table_of, first}
 
 -- those of its finders
 abbrev pub published_detections : List ℕ → ℕ → ℕ → List Detection
 published_detections bits w h = detections_of bits w h (published_finders bits w h)
 
 -- `detect_candidates`
-abbrev pub published_detect : List ℕ → ℕ → ℕ → Answer
-published_detect bits w h = answered (published_refusal bits w h) (published_detections bits w h)
+abbrev pub published_detect : List ℕ → ℕ → ℕ → Result Detections Refusal
+published_detect bits w h = checked (find_checks (length bits) w h (found_by counted_of bits w h)) (table_of (published_detections bits w h))
 
 -- `detect`
-abbrev pub published_first : List ℕ → ℕ → ℕ → First
-published_first bits w h = let n = published_refusal bits w h in first n (unless n [] (published_detections bits w h))
+abbrev pub published_first : List ℕ → ℕ → ℕ → Result (Option Detection) Refusal
+published_first bits w h = checked (find_checks (length bits) w h (found_by counted_of bits w h)) (first (published_detections bits w h))

@@ -1,16 +1,18 @@
 // The detections of a picture: of the ranked triples of its finders, those that can be built.
 #![tactic(auto)]
 
-ghost use Rattle.std.specs.Prelude.{◌≡◌, List, [], ◌++◌, ◌<◌};
+ghost use Rattle.std.specs.Prelude.{◌≡◌, List, [], ◌∷◌, ◌++◌, ◌<◌};
 ghost use Rattle.ranking.specs.Ranking.{in_use, eight_of};
 ghost use Rattle.finders.specs.Answer.{table_of as finders_table};
-ghost use Rattle.candidates.specs.Detection.{none, build_with, build_of, zero_detection};
+ghost use Rattle.candidates.specs.Detection.{build_with, build_of, zero_detection};
 ghost use Rattle.candidates.specs.Passing.{Within};
-ghost use Rattle.candidates.specs.Candidates.{corners_of, kept, detections_of, table_of, answered, from_answer, detect_answer, detect_first};
+ghost use Rattle.candidates.specs.Candidates.{corners_of, detections_of, table_of, from_answer, detect_answer, detect_first};
 
 use alignment::Refined;
+use binary::refusal::check_bits;
 use finders::Finders;
 use geometry::{Corners, Finder};
+use lcr_core::Refusal;
 use lcr_core::version::Version;
 use ranking::{Eight, Triple};
 use transform::{Point, Transform};
@@ -27,33 +29,11 @@ pub struct Detection {
     pub mean: f32,
 }
 
-// A detection, or none, and then zeros.
-#[derive(Clone, Copy)]
-pub struct Built {
-    pub found: bool,
-    pub detection: Detection,
-}
-
 // At most three detections; places from count on are zero.
 #[derive(Clone, Copy)]
 pub struct Detections {
     pub count: usize,
     pub at: [Detection; 3],
-}
-
-// A refusal number, 0 if there is none, and the detections, none after a refusal.
-#[derive(Clone, Copy)]
-pub struct Answer {
-    pub refusal: u8,
-    pub detections: Detections,
-}
-
-// A refusal number, and the first detection, if there is one.
-#[derive(Clone, Copy)]
-pub struct First {
-    pub refusal: u8,
-    pub found: bool,
-    pub detection: Detection,
 }
 
 fn zero_detection() -> Detection
@@ -75,61 +55,53 @@ fn zero_detection() -> Detection
     }
 }
 
-fn nothing_built() -> Built
-    ensures { result ≡ none }
-{
-    let z = zero_detection();
-    Built {
-        found: false,
-        detection: z,
-    }
-}
-
 // The detection of three ordered finders with a triple's score for a version, or none.
-fn build_with(bits: &[u8], width: u32, height: u32, c: Corners, score: f32, v: Version) -> Built
+fn build_with(
+    bits: &[u8],
+    width: u32,
+    height: u32,
+    c: Corners,
+    score: f32,
+    v: Version,
+) -> Option<Detection>
     ensures { result ≡ build_with bits.now width height c score v.0 }
 {
     let mean = geometry::score::mean_module(c.tl, c.tr, c.bl);
     // Predict the marker by the finders alone, then look for it there.
     let rough_build = geometry::build_transform(c, None, v);
-    let Some(rough) = rough_build.unwrap_or(None) else {
-        return nothing_built();
-    };
+    let rough = rough_build.unwrap_or(None)?;
     let located = alignment::locate_alignment(bits, width, height, rough, v, mean);
     let marker = located.unwrap_or(None);
     let build = geometry::build_transform(c, marker, v);
-    let Some(transform) = build.unwrap_or(None) else {
-        return nothing_built();
-    };
+    let transform = build.unwrap_or(None)?;
     let unrefined = Refined {
         transform: Transform::zero(),
         marker: None,
     };
     let refinement = alignment::refine_alignment(bits, width, height, c, v, transform, mean);
     let refined = refinement.unwrap_or(unrefined);
-    let last_marker = refined.marker;
-    let last_transform = refined.transform;
-    Built {
-        found: true,
-        detection: Detection {
-            finders: c,
-            marker: last_marker,
-            version: v,
-            transform: last_transform,
-            score,
-            mean,
-        },
-    }
+    Some(Detection {
+        finders: c,
+        marker: refined.marker,
+        version: v,
+        transform: refined.transform,
+        score,
+        mean,
+    })
 }
 
 // The detection of three ordered finders with a triple's score, or none.
-fn build_detection(bits: &[u8], width: u32, height: u32, c: Corners, score: f32) -> Built
+fn build_detection(
+    bits: &[u8],
+    width: u32,
+    height: u32,
+    c: Corners,
+    score: f32,
+) -> Option<Detection>
     ensures { result ≡ build_of bits.now width height c score }
 {
-    match geometry::estimate_version(c) {
-        Some(v) => build_with(bits, width, height, c, score, v),
-        None => nothing_built(),
-    }
+    let v = geometry::estimate_version(c)?;
+    build_with(bits, width, height, c, score, v)
 }
 
 // The empty table.
@@ -143,20 +115,15 @@ pub fn no_detections() -> Detections
     }
 }
 
-// One more detection, if it could be built.
-fn push(found: Detections, built: Built) -> Detections
-    requires { found.count < 3 }
-    ensures { (ds : List Detection) → found ≡ table_of ds → result ≡ table_of (ds ++ kept built) }
-{
-    if built.found {
-        let mut more = found;
-        let n = more.count;
-        let d = built.detection;
-        more.at[n] = d;
-        more.count = n + 1;
-        return more;
+impl Detections {
+    // One more detection.
+    fn push(&mut self, d: Detection)
+        requires { self.old.count < 3 }
+        ensures { (ds : List Detection) → self.old ≡ table_of ds → self.new ≡ table_of (ds ++ d ∷ []) }
+    {
+        self.at[self.count] = d;
+        self.count += 1;
     }
-    found
 }
 
 // The finders at a triple's places, ordered.
@@ -170,7 +137,9 @@ fn corners_at(t: Eight, s: Triple) -> Corners
     geometry::order_finders(t.at[i], t.at[j], t.at[k])
 }
 
-// The detections of the ranked triples, in rank order; those that can't be built are left out.
+// The detections of the ranked triples, in rank order; those that can't be built are left out. Not inlined, so that its locals add nothing to the stack below
+// the search.
+#[inline(never)]
 fn built_triples(bits: &[u8], width: u32, height: u32, t: Eight) -> Detections
     ensures { result ≡ table_of (detections_of bits.now width height (in_use t)) }
 {
@@ -180,37 +149,19 @@ fn built_triples(bits: &[u8], width: u32, height: u32, t: Eight) -> Detections
     for p in 0..ranked.count {
         let s = places[p];
         let c = corners_at(t, s);
-        found = push(found, build_detection(bits, width, height, c, s.score));
+        if let Some(d) = build_detection(bits, width, height, c, s.score) {
+            found.push(d);
+        }
     }
     found
 }
 
-// The answer with a refusal number: the detections of a table's finders, or none where the number is not 0. Not inlined, so that its locals add nothing to the
-// stack below the search.
-#[inline(never)]
-fn answer_with(bits: &[u8], width: u32, height: u32, n: u8, t: Eight) -> Answer
-    ensures { result ≡ answered n (detections_of bits.now width height (in_use t)) }
-{
-    if n != 0 {
-        let none = no_detections();
-        return Answer {
-            refusal: n,
-            detections: none,
-        };
-    }
-    let all = built_triples(bits, width, height, t);
-    Answer {
-        refusal: 0,
-        detections: all,
-    }
-}
-
 // The detections of a table's finders in a picture of width × height pixels: refusals 1, 2, 4.
-pub fn candidates_in(bits: &[u8], width: u32, height: u32, t: Eight) -> Answer
+pub fn candidates_in(bits: &[u8], width: u32, height: u32, t: Eight) -> Result<Detections, Refusal>
     ensures { result ≡ from_answer bits.now width height (in_use t) }
 {
-    let n = lcr_core::number(binary::refusal::check_bits(bits.len(), width, height));
-    answer_with(bits, width, height, n, t)
+    check_bits(bits.len(), width, height)?;
+    Ok(built_triples(bits, width, height, t))
 }
 
 // The first eight finders of a search.
@@ -221,36 +172,32 @@ pub fn eight_in(t: Finders) -> Eight
 }
 
 // The detections of a picture: refusals 1, 2, 4, and 6 where it has too many finders.
-pub fn detect_candidates(bits: &[u8], width: u32, height: u32) -> Answer
+pub fn detect_candidates(bits: &[u8], width: u32, height: u32) -> Result<Detections, Refusal>
     ensures { result ≡ detect_answer bits.now width height }
 {
-    match finders::find_finders(bits, width, height) {
-        Ok(found) => answer_with(bits, width, height, 0, eight_in(found)),
-        Err(refusal) => Answer {
-            refusal: u8::from(refusal),
-            detections: no_detections(),
-        },
-    }
+    let found = finders::find_finders(bits, width, height)?;
+    Ok(built_triples(bits, width, height, eight_in(found)))
 }
 
 // The first detection of a picture, if there is one.
-pub fn detect(bits: &[u8], width: u32, height: u32) -> First
+pub fn detect(bits: &[u8], width: u32, height: u32) -> Result<Option<Detection>, Refusal>
     ensures { result ≡ detect_first bits.now width height }
 {
-    let a = detect_candidates(bits, width, height);
-    let d = a.detections;
-    let first = d.at[0];
-    First {
-        refusal: a.refusal,
-        found: 0 < d.count,
-        detection: first,
+    let found = detect_candidates(bits, width, height)?;
+    if found.count == 0 {
+        return Ok(None);
     }
+    Ok(Some(found.at[0]))
 }
 
 // The detections of a lent list's finders, however many there are: refusals 1, 2, 4.
-pub fn candidates_from(bits: &[u8], width: u32, height: u32, fs: &[Finder]) -> Answer
+pub fn candidates_from(
+    bits: &[u8],
+    width: u32,
+    height: u32,
+    fs: &[Finder],
+) -> Result<Detections, Refusal>
     ensures { result ≡ from_answer bits.now width height fs.now }
 {
-    let t = lent::first_eight(fs);
-    candidates_in(bits, width, height, t)
+    candidates_in(bits, width, height, lent::first_eight(fs))
 }

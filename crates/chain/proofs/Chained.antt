@@ -1,37 +1,25 @@
 -- The answer of the chain and what it leaves, from what its two calls say. Assumes nothing.
 use mathlib.Core.Path.{◌≡◌, refl, sym, ◌∙◌, ap}
 use mathlib.Core.Bool.{Bool, true, false, cond}
-use mathlib.Core.List.{List, []}
-use Prim.Native.Nat.{ℕ, zero, suc}
-use Rattle.lcr_core.specs.Outcome.{unless}
-use Rattle.lcr_core.proofs.Checks.{unless_done}
-use Rattle.candidates.specs.declared.Answer.{Answer}
+use mathlib.Core.List.{List}
+use Prim.Native.Nat.{ℕ}
+use Rattle.std.specs.Prelude.{Result}
+use Rattle.lcr_core.specs.Outcome.{number_of}
+use Rattle.lcr_core.specs.declared.Refusal.{Refusal}
 use Rattle.candidates.specs.declared.Detections.{Detections}
-use Rattle.candidates.specs.Candidates.{table_of, answered, detect_answer}
+use Rattle.candidates.specs.Candidates.{detect_answer}
 use Rattle.candidates.proofs.Tails.{answer_tail}
 use Rattle.finders.specs.Answer.{is_over}
 use Rattle.finders.specs.Search.{found}
 use Rattle.stages.specs.Stages.{stages_refusal}
 use Rattle.stages.specs.Pictures.{denoised_picture, left_after}
 use Rattle.stages.proofs.Theorems.{denoised_first}
-use Rattle.chain.specs.Chain.{chain_of, chain_answer}
+use Rattle.chain.specs.Chain.{chain_of}
 use Rattle.chain.proofs.Theorems.{six_is_left}
 
 -- where the stages refuse with m, and where they don't
 module _ (m : ℕ) (p : List ℕ) (w h s f : ℕ) where
-  pub chain_refused : (n : ℕ) (d : Detections) → n ≡ m → (n ≡ 0 → ⊥) → d ≡ table_of [] → record { refusal = n; detections = d } ≡ chain_answer m p w h s f
-  unfolding chain_answer
-  chain_refused n d e z g = go m e
-    where
-      go : (m : ℕ) → n ≡ m → record { refusal = n; detections = d } ≡ unless m (answered m []) (chain_of p w h s f)
-      go zero e = absurd (z e)
-      go (suc k) e = rw (e, g)
-
-  pub chain_done : (r : Answer) → m ≡ 0 → r ≡ chain_of p w h s f → r ≡ chain_answer m p w h s f
-  unfolding chain_answer
-  chain_done r e g = g ∙ unless_done m (answered m []) (chain_of p w h s f) e
-
-  pub chained : m ≡ 0 → (old done : List ℕ) → done ≡ left_after m (denoised_picture p w h s f) old → (r : Answer) → r ≡ detect_answer done w h → r ≡ chain_of p w h s f
+  pub chained : m ≡ 0 → (old done : List ℕ) → done ≡ left_after m (denoised_picture p w h s f) old → (r : Result Detections Refusal) → r ≡ detect_answer done w h → r ≡ chain_of p w h s f
   unfolding chain_of
   chained z old done e r a = a ∙ sym (answer_tail done w h) ∙ ap (λ (d : List ℕ). detect_answer d w h) (denoised_first m p w h s f z old done e)
 
@@ -45,8 +33,8 @@ left_six true new old = refl
 left_six false new old = refl
 
 module _ (len w h s f gray bits denoised : ℕ) (work : List ℕ) (m : ℕ) (e : m ≡ stages_refusal len w h s f gray bits denoised work) where
-  pub left_done : (p : List ℕ) (r : Answer) → m ≡ 0 → r ≡ chain_of p w h s f → (x new old : List ℕ) → x ≡ left_after m new old → x ≡ left_after r.refusal new old
+  pub left_done : (p : List ℕ) (r : Result Detections Refusal) → m ≡ 0 → r ≡ chain_of p w h s f → (x new old : List ℕ) → x ≡ left_after m new old → x ≡ left_after (number_of r) new old
   left_done p r z a x new old g =
       let b = is_over (found (denoised_picture p w h s f) w h) in
-      let t : r.refusal ≡ cond b 6 0 = ap (λ (r : Answer). r.refusal) a ∙ six_is_left p w h s f len gray bits denoised work (sym e ∙ z) in
+      let t : number_of r ≡ cond b 6 0 = ap number_of a ∙ six_is_left p w h s f len gray bits denoised work (sym e ∙ z) in
       g ∙ ap (λ (k : ℕ). left_after k new old) z ∙ left_six b new old ∙ ap (λ (k : ℕ). left_after k new old) (sym t)

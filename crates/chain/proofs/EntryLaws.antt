@@ -7,18 +7,20 @@ use native.Mathlib.Omega.{arith}
 use lib.Dec.{ltb}
 use lib.ListN.{length}
 use borrow.Author.Tests.{lt-ltb, le-ltb, ltb-false}
-use Rattle.lists.specs.Lists.{written}
-use Rattle.lcr_core.specs.Outcome.{unless}
-use Rattle.lcr_core.proofs.Checks.{unless_done, first_passes}
+use Rattle.std.specs.Prelude.{◌∷◌, ◌++◌, Result, Ok}
+use Rattle.lcr_core.specs.Outcome.{Check, refusal_number, number_of, first_of, unless}
+use Rattle.lcr_core.specs.declared.Refusal.{Refusal}
+use Rattle.lcr_core.proofs.Checks.{first_passes, some_number}
 use Rattle.little_endian.specs.Bytes.{put}
 use Rattle.little_endian.proofs.Round.{put_front}
-use Rattle.candidates.specs.declared.Answer.{Answer}
-use Rattle.candidates.specs.Candidates.{answered}
+use Rattle.candidates.specs.declared.Detections.{Detections}
+use Rattle.candidates.specs.Candidates.{table_in}
 use Rattle.firmware.specs.Firmware.{firmware_bytes, firmware_size}
-use Rattle.stages.specs.Stages.{stages_refusal}
+use Rattle.stages.specs.Stages.{stages_checks, stages_refusal}
 use Rattle.stages.specs.Pictures.{left_after}
 use Rattle.stages.proofs.Closed.{at_most_five, left_old}
-use Rattle.chain.specs.Chain.{chain_of, chain_answer, entry_refusal, detections_after}
+use Rattle.chain.specs.Chain.{chain_of, chain_answer, short_detections, entry_refusal, detections_after}
+use Rattle.chain.proofs.Behind.{first_behind, behind_refused, behind_passed}
 use Rattle.chain.proofs.Theorems.{detection_bytes_lem}
 
 -- ---- the check, where the stages give m and the detections are lent so many bytes
@@ -64,35 +66,41 @@ module _ (m room : ℕ) where
       go zero e = ltb-false room firmware_size (first_passes (ltb room firmware_size) 4 0 e).0
       go (suc k) e = absurd (omega arith)
 
--- ---- the entry, where its check gives n
-module _ (len w h s f gray bits denoised : ℕ) (work : List ℕ) (room n : ℕ) (e : n ≡ entry_refusal (stages_refusal len w h s f gray bits denoised work) room) where
+-- ---- the entry, where its check answers `checked`, and `entry` is the list of checks with the room's behind the stages'
+module _ (len w h s f gray bits denoised : ℕ) (work : List ℕ) (room : ℕ) (p : List ℕ) where
+  abbrev cs : List Check
+  cs = stages_checks len w h s f gray bits denoised work
+
   abbrev m : ℕ
   m = stages_refusal len w h s f gray bits denoised work
 
-  -- it refuses
-  pub entry-refused : (n ≡ 0 → ⊥) → (p : List ℕ) → n ≡ (chain_answer (entry_refusal m room) p w h s f).refusal
-  unfolding chain_answer
-  entry-refused z p = e ∙ go (entry_refusal m room) (λ q. z (e ∙ q))
-    where
-      go : (k : ℕ) → (k ≡ 0 → ⊥) → k ≡ (unless k (answered k []) (chain_of p w h s f)).refusal
-      go zero q = absurd (q refl)
-      go (suc k) q = refl
+  abbrev entry : Result Detections Refusal
+  entry = chain_answer (cs ++ (short_detections room ∷ [])) p w h s f
 
-  pub untouched : (n ≡ 0 → ⊥) → (new old : List ℕ) → old ≡ left_after n new old
-  untouched z = left_old n z (rw e (five_at_most m room (at_most_five len w h s f gray bits denoised work)))
+  -- its number is the first that refuses
+  entry_number : entry_refusal m room ≡ first_of (cs ++ (short_detections room ∷ []))
+  unfolding entry_refusal stages_refusal
+  entry_number = first_behind cs (short_detections room)
+
+  -- it refuses
+  pub entry_refused : (r : Refusal) → refusal_number r ≡ entry_refusal m room → refusal_number r ≡ number_of entry
+  entry_refused r e = ap number_of (behind_refused p w h s f (cs ++ (short_detections room ∷ [])) r (e ∙ entry_number))
+
+  pub untouched : (n : ℕ) (r : Refusal) → n ≡ refusal_number r → refusal_number r ≡ entry_refusal m room → (new old : List ℕ) → old ≡ left_after n new old
+  untouched n r g e = left_old n (λ z. some_number r (sym g ∙ z)) (rw (g, e) (five_at_most m room (at_most_five len w h s f gray bits denoised work)))
 
   -- it passes, and a is the chain's answer
-  module _ (z : n ≡ 0) (p : List ℕ) (a : Answer) (g : a ≡ chain_answer m p w h s f) where
-    pub entry_passed : a.refusal ≡ (chain_answer (entry_refusal m room) p w h s f).refusal
-    entry_passed =
-        let q : m ≡ entry_refusal m room = both_pass m room (sym e ∙ z) ∙ sym (sym e ∙ z) in
-        ap (λ (a : Answer). a.refusal) (g ∙ ap (λ (k : ℕ). chain_answer k p w h s f) q)
+  module _ (z : 0 ≡ entry_refusal m room) (a : Result Detections Refusal) (g : a ≡ chain_answer cs p w h s f) where
+    is_chain : a ≡ chain_of p w h s f
+    unfolding stages_refusal
+    is_chain = g ∙ sym (behind_passed p w h s f cs (sym (both_pass m room (sym z))))
+
+    pub entry_passed : number_of a ≡ number_of entry
+    entry_passed = ap number_of (is_chain ∙ behind_passed p w h s f (cs ++ (short_detections room ∷ [])) (z ∙ entry_number))
 
     -- the detections, where the chain refuses nothing
-    pub entry_found : a.refusal ≡ 0 → (x old : List ℕ) → room ≡ length old → x ≡ put (firmware_bytes a.detections) 0 old → x ≡ detections_after a.refusal p w h s f old
-    unfolding chain_answer
-    entry_found t x old r q =
-        let bytes = firmware_bytes (chain_of p w h s f).detections in
-        let d : a ≡ chain_of p w h s f = g ∙ sym (unless_done m (answered m []) (chain_of p w h s f) (both_pass m room (sym e ∙ z))) in
-        let l : length bytes ≤ length old = omega (arith, room_left m room (sym e ∙ z), detection_bytes_lem p w h s f) in
-        q ∙ ap (λ (a : Answer). put (firmware_bytes a.detections) 0 old) d ∙ put_front bytes old l ∙ unless_done a.refusal old (written bytes old) t
+    pub entry_found : (t : Detections) → Ok t ≡ a → (x old : List ℕ) → room ≡ length old → x ≡ put (firmware_bytes t) 0 old → x ≡ detections_after 0 p w h s f old
+    entry_found t k x old r q =
+        let d : t ≡ table_in (chain_of p w h s f) = ap table_in (k ∙ is_chain) in
+        let l : length (firmware_bytes (table_in (chain_of p w h s f))) ≤ length old = omega (arith, room_left m room (sym z), detection_bytes_lem p w h s f) in
+        q ∙ ap (λ (t : Detections). put (firmware_bytes t) 0 old) d ∙ put_front (firmware_bytes (table_in (chain_of p w h s f))) old l

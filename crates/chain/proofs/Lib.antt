@@ -1,3 +1,4 @@
 pub mod Theorems
+pub mod Behind
 pub mod Chained
 pub mod EntryLaws

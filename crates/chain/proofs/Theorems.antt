@@ -1,26 +1,28 @@
 -- Where the stages refuse nothing, the only refusal that is left to the detections of the denoised bits is 6; their bytes are 367; and where the limit ended
 -- no run of a hit that document 000 confirms, they are those over document 000's finders; and of score and mean module in what the chain answers, and of
 -- lenses, of which there are none (document 02, N8 and N12). Assumes nothing.
-use mathlib.Core.Path.{◌≡◌}
-use mathlib.Core.Bool.{false, cond}
+use mathlib.Core.Path.{◌≡◌, ◌∙◌}
+use Rattle.std.specs.Prelude.{[], ◌∷◌, Err}
+use mathlib.Core.Bool.{Bool, true, false, cond}
 use mathlib.Core.List.{List}
-use Prim.Native.Nat.{ℕ, zero, suc, ◌*◌}
+use Prim.Native.Nat.{ℕ, ◌*◌}
 use native.Mathlib.Omega.{arith}
 use lib.Dec.{ltb}
 use lib.ListN.{length}
 use borrow.Author.Tests.{le-ltb}
 use Rattle.lists.specs.Lists.{Each}
-use Rattle.lcr_core.specs.Outcome.{zero_side, large_side}
+use Rattle.lcr_core.specs.Outcome.{Check, number_of, zero_side, large_side}
 use Rattle.lcr_core.proofs.Checks.{first_passes}
 use Rattle.binary.specs.Binary.{bytes_of}
 use Rattle.binary.specs.Refusal.{short_bits}
 use Rattle.finders.specs.Answer.{is_over, find_refusal, finders_of}
 use Rattle.finders.specs.Search.{found}
 use Rattle.finders.specs.Published.{NoneCut}
-use Rattle.candidates.specs.Candidates.{detect_answer}
+use Rattle.candidates.specs.Candidates.{table_in}
 use Rattle.candidates.specs.Detection.{WithoutLens}
 use Rattle.candidates.specs.Graded.{AllGraded}
 use Rattle.candidates.specs.Published.{published_detect}
+use Rattle.candidates.proofs.Answers.{detect_number}
 use Rattle.candidates.proofs.Grades.{none_graded, detect_graded}
 use Rattle.candidates.proofs.Lenses.{none-plain, detect_plain}
 use Rattle.candidates.proofs.Published.{uncut_detect}
@@ -33,15 +35,15 @@ use Rattle.chain.specs.Chain.{chain_of, chain_answer}
 
 module _ (p : List ℕ) (w h s f : ℕ) where
   pub six_is_left : (len gray bits denoised : ℕ) (work : List ℕ) → stages_refusal len w h s f gray bits denoised work ≡ 0
-      → (chain_of p w h s f).refusal ≡ cond (is_over (found (denoised_picture p w h s f) w h)) 6 0
-  unfolding chain_of detect_answer stages_refusal find_refusal short_bits
+      → number_of (chain_of p w h s f) ≡ cond (is_over (found (denoised_picture p w h s f) w h)) 6 0
+  unfolding chain_of stages_refusal find_refusal short_bits
   six_is_left len gray bits denoised work e =
       let p1 = first_passes (zero_side w h) 0 _ e in
       let p2 = first_passes (large_side w h) 1 _ p1.1 in
       let k : ltb (length (denoised_picture p w h s f)) (bytes_of (w * h)) ≡ false = le-ltb (length (denoised_picture p w h s f)) (bytes_of (w * h)) (omega (arith, length_denoised p w h s f)) in
-      simp (p1.0, p2.0, k)
+      detect_number (denoised_picture p w h s f) w h ∙ simp (p1.0, p2.0, k)
 
-  pub detection_bytes_lem : length (firmware_bytes (chain_of p w h s f).detections) ≡ firmware_size
+  pub detection_bytes_lem : length (firmware_bytes (table_in (chain_of p w h s f))) ≡ firmware_size
   unfolding chain_of
   detection_bytes_lem = answer_bytes (denoised_picture p w h s f) w h
 
@@ -49,14 +51,22 @@ module _ (p : List ℕ) (w h s f : ℕ) where
   unfolding chain_of
   uncut_chain u = uncut_detect (denoised_picture p w h s f) w h u
 
-  -- of `chain` and `plate_chain`, whatever n they refuse before a byte is written
-  pub chain_graded : (n : ℕ) → AllGraded (finders_of (denoised_picture p w h s f) w h) (chain_answer n p w h s f).detections
-  unfolding chain_answer chain_of
-  chain_graded zero = detect_graded (denoised_picture p w h s f) w h
-  chain_graded (suc n) = none_graded (finders_of (denoised_picture p w h s f) w h)
+  -- of `chain` and `plate_chain`, whatever checks they make before a byte is written
+  pub chain_graded : (cs : List Check) → AllGraded (finders_of (denoised_picture p w h s f) w h) (table_in (chain_answer cs p w h s f))
+  unfolding chain_of
+  chain_graded [] = detect_graded (denoised_picture p w h s f) w h
+  chain_graded (c ∷ cs) = go c.refuses (chain_graded cs)
+    where
+      go : (b : Bool) → AllGraded (finders_of (denoised_picture p w h s f) w h) (table_in (chain_answer cs p w h s f)) → AllGraded (finders_of (denoised_picture p w h s f) w h) (table_in (cond b (Err c.refusal) (chain_answer cs p w h s f)))
+      go true k = none_graded (finders_of (denoised_picture p w h s f) w h)
+      go false k = k
 
   -- no detection of theirs has a lens (document 02, N12), so that the eight numbers of the firmware's bytes and of the listing say all
-  pub chain_plain : (n : ℕ) → Each WithoutLens (chain_answer n p w h s f).detections.at
-  unfolding chain_answer chain_of
-  chain_plain zero = detect_plain (denoised_picture p w h s f) w h
-  chain_plain (suc n) = none-plain
+  pub chain_plain : (cs : List Check) → Each WithoutLens (table_in (chain_answer cs p w h s f)).at
+  unfolding chain_of
+  chain_plain [] = detect_plain (denoised_picture p w h s f) w h
+  chain_plain (c ∷ cs) = go c.refuses (chain_plain cs)
+    where
+      go : (b : Bool) → Each WithoutLens (table_in (chain_answer cs p w h s f)).at → Each WithoutLens (table_in (cond b (Err c.refusal) (chain_answer cs p w h s f))).at
+      go true k = none-plain
+      go false k = k

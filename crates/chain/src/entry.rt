@@ -5,7 +5,7 @@ ghost use Rattle.stages.specs.Stages.{stages_refusal};
 ghost use Rattle.stages.specs.Pictures.{gray_after, bits_after, denoised_after, means_after, least_after, greatest_after, edges_after, nears_after};
 ghost use Rattle.chain.specs.Chain.{entry_refusal, entry_answer, detections_after};
 
-use lcr_core::{Refusal, number};
+use lcr_core::Refusal;
 
 // What is refused before a byte is written, for `len` picture bytes and lent slices of these lengths.
 fn check_entry(
@@ -54,8 +54,8 @@ pub fn plate_chain(
     nears: &mut [u8],
     detections: &mut [u8],
 ) -> u8
-    ensures refusal { result ≡ (entry_answer picture.now width height stride format gray.old bits.old denoised.old
-        (means.old ∷ least.old ∷ greatest.old ∷ edges.old ∷ nears.old ∷ []) detections.old).refusal }
+    ensures refusal { result ≡ number_of (entry_answer picture.now width height stride format gray.old bits.old denoised.old
+        (means.old ∷ least.old ∷ greatest.old ∷ edges.old ∷ nears.old ∷ []) detections.old) }
     ensures gray { gray.new ≡ gray_after result picture.now width height stride format gray.old }
     ensures bits { bits.new ≡ bits_after result picture.now width height stride format bits.old }
     ensures denoised { denoised.new ≡ denoised_after result picture.now width height stride format denoised.old }
@@ -66,7 +66,7 @@ pub fn plate_chain(
     ensures nears { nears.new ≡ nears_after result picture.now width height stride format nears.old }
     ensures detections { detections.new ≡ detections_after result picture.now width height stride format detections.old }
 {
-    let n = number(check_entry(
+    let checked = check_entry(
         picture.len(),
         width,
         height,
@@ -81,18 +81,19 @@ pub fn plate_chain(
         edges.len(),
         nears.len(),
         detections.len(),
-    ));
-    if n != 0 {
-        return n;
+    );
+    if let Err(refusal) = checked {
+        return u8::from(refusal);
     }
-    let a = crate::chain(
+    let answer = crate::chain(
         picture, width, height, stride, format, gray, bits, denoised, means, least, greatest,
         edges, nears,
     );
-    let refusal = a.refusal;
-    if refusal == 0 {
-        let found = a.detections;
-        firmware::put_detections(detections, found);
+    match answer {
+        Ok(found) => {
+            firmware::put_detections(detections, found);
+            0
+        }
+        Err(refusal) => u8::from(refusal),
     }
-    refusal
 }

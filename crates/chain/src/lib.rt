@@ -2,10 +2,12 @@
 #![tactic(auto)]
 
 ghost use Rattle.std.specs.Prelude.{◌≡◌, ◌∷◌, []};
+ghost use Rattle.lcr_core.specs.Outcome.{number_of};
 ghost use Rattle.stages.specs.Pictures.{gray_after, bits_after, denoised_after, means_after, least_after, greatest_after, edges_after, nears_after};
 ghost use Rattle.chain.specs.Chain.{whole_answer};
 
-use candidates::Answer;
+use candidates::Detections;
+use lcr_core::Refusal;
 
 pub mod entry;
 
@@ -25,28 +27,21 @@ pub fn chain(
     greatest: &mut [u8],
     edges: &mut [u8],
     nears: &mut [u8],
-) -> Answer
+) -> Result<Detections, Refusal>
     ensures answer { result ≡ whole_answer picture.now width height stride format gray.old bits.old denoised.old
         (means.old ∷ least.old ∷ greatest.old ∷ edges.old ∷ nears.old ∷ []) }
-    ensures gray { gray.new ≡ gray_after result.refusal picture.now width height stride format gray.old }
-    ensures bits { bits.new ≡ bits_after result.refusal picture.now width height stride format bits.old }
-    ensures denoised { denoised.new ≡ denoised_after result.refusal picture.now width height stride format denoised.old }
-    ensures means { means.new ≡ means_after result.refusal picture.now width height stride format means.old }
-    ensures least { least.new ≡ least_after result.refusal picture.now width height stride format least.old }
-    ensures greatest { greatest.new ≡ greatest_after result.refusal picture.now width height stride format greatest.old }
-    ensures edges { edges.new ≡ edges_after result.refusal picture.now width height stride format edges.old }
-    ensures nears { nears.new ≡ nears_after result.refusal picture.now width height stride format nears.old }
+    ensures gray { gray.new ≡ gray_after (number_of result) picture.now width height stride format gray.old }
+    ensures bits { bits.new ≡ bits_after (number_of result) picture.now width height stride format bits.old }
+    ensures denoised { denoised.new ≡ denoised_after (number_of result) picture.now width height stride format denoised.old }
+    ensures means { means.new ≡ means_after (number_of result) picture.now width height stride format means.old }
+    ensures least { least.new ≡ least_after (number_of result) picture.now width height stride format least.old }
+    ensures greatest { greatest.new ≡ greatest_after (number_of result) picture.now width height stride format greatest.old }
+    ensures edges { edges.new ≡ edges_after (number_of result) picture.now width height stride format edges.old }
+    ensures nears { nears.new ≡ nears_after (number_of result) picture.now width height stride format nears.old }
 {
-    let n = lcr_core::number(stages::stages(
+    stages::stages(
         picture, width, height, stride, format, gray, bits, denoised, means, least, greatest,
         edges, nears,
-    ));
-    if n != 0 {
-        let none = candidates::no_detections();
-        return Answer {
-            refusal: n,
-            detections: none,
-        };
-    }
+    )?;
     candidates::detect_candidates(denoised, width, height)
 }

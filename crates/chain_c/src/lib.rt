@@ -2,6 +2,7 @@
 #![tactic(auto)]
 
 ghost use Rattle.std.specs.Prelude.{◌≡◌, ◌∷◌, []};
+ghost use Rattle.lcr_core.specs.Outcome.{number_of};
 ghost use Rattle.stages.specs.Pictures.{gray_after, bits_after, denoised_after, means_after, least_after, greatest_after, edges_after, nears_after};
 ghost use Rattle.chain.specs.Chain.{entry_answer, detections_after};
 
@@ -24,8 +25,8 @@ pub extern "C" fn plate_chain(
     nears: &mut [u8],
     detections: &mut [u8],
 ) -> u8
-    ensures refusal { result ≡ (entry_answer picture.now width height stride format gray.old bits.old denoised.old
-        (means.old ∷ least.old ∷ greatest.old ∷ edges.old ∷ nears.old ∷ []) detections.old).refusal }
+    ensures refusal { result ≡ number_of (entry_answer picture.now width height stride format gray.old bits.old denoised.old
+        (means.old ∷ least.old ∷ greatest.old ∷ edges.old ∷ nears.old ∷ []) detections.old) }
     ensures gray { gray.new ≡ gray_after result picture.now width height stride format gray.old }
     ensures bits { bits.new ≡ bits_after result picture.now width height stride format bits.old }
     ensures denoised { denoised.new ≡ denoised_after result picture.now width height stride format denoised.old }

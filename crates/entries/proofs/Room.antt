@@ -8,15 +8,18 @@ use lib.Dec.{ltb}
 use lib.ListN.{length}
 use borrow.Author.Tests.{lt-ltb, le-ltb, ltb-false}
 use Rattle.lists.specs.Lists.{written}
-use Rattle.lcr_core.specs.Outcome.{first_of, unless, zero_side, large_side}
+use Rattle.std.specs.Prelude.{Result, Ok}
+use Rattle.lcr_core.specs.Outcome.{number_of, first_of, unless, zero_side, large_side}
+use Rattle.lcr_core.specs.declared.Refusal.{Refusal}
 use Rattle.lcr_core.proofs.Checks.{first_passes, unless-refused, unless_done}
 use Rattle.little_endian.specs.Bytes.{put}
 use Rattle.little_endian.proofs.Round.{put_front}
 use Rattle.binary.specs.Refusal.{short_bits, bits_refusal}
 use Rattle.finders.specs.Search.{found}
 use Rattle.finders.specs.Answer.{is_over, find_refusal}
-use Rattle.candidates.specs.declared.Answer.{Answer}
-use Rattle.candidates.specs.Candidates.{detect_answer}
+use Rattle.candidates.specs.declared.Detections.{Detections}
+use Rattle.candidates.specs.Candidates.{table_in, detect_answer}
+use Rattle.candidates.proofs.Answers.{detect_number}
 use Rattle.firmware.specs.Firmware.{firmware_bytes, firmware_size}
 use Rattle.firmware.proofs.Theorems.{answer_bytes}
 use Rattle.entries.specs.Entries.{room_checks, candidates_refusal}
@@ -71,15 +74,18 @@ module _ (bits : List ℕ) (w h room n : ℕ) (e : n ≡ first_of (room_checks (
       ∙ four_then (zero_side w h) (large_side w h) (short_bits (length bits) w h) (ltb room firmware_size) (cond (is_over (found bits w h)) 6 0)
 
   -- it passes, and a is the answer
-  module _ (z : n ≡ 0) (a : Answer) (g : a ≡ detect_answer bits w h) where
-    pub search_answered : a.refusal ≡ candidates_refusal bits w h room
-    unfolding candidates_refusal detect_answer find_refusal
-    search_answered =
+  module _ (z : n ≡ 0) (a : Result Detections Refusal) (g : a ≡ detect_answer bits w h) where
+    search_number : number_of a ≡ candidates_refusal bits w h room
+    unfolding candidates_refusal find_refusal
+    search_number =
         let p1 = first_passes (zero_side w h) 0 _ (sym e ∙ z) in
         let p2 = first_passes (large_side w h) 1 _ p1.1 in
         let p3 = first_passes (short_bits (length bits) w h) 3 _ p2.1 in
         let p4 = first_passes (ltb room firmware_size) 4 _ p3.1 in
-        ap (λ (a : Answer). a.refusal) g ∙ simp (p1.0, p2.0, p3.0, p4.0)
+        ap number_of g ∙ detect_number bits w h ∙ simp (p1.0, p2.0, p3.0, p4.0)
+
+    pub search_answered : (m : ℕ) → number_of a ≡ m → m ≡ candidates_refusal bits w h room
+    search_answered m i = sym i ∙ search_number
 
     room_left : firmware_size ≤ room
     room_left =
@@ -89,9 +95,9 @@ module _ (bits : List ℕ) (w h room n : ℕ) (e : n ≡ first_of (room_checks (
         ltb-false room firmware_size (first_passes (ltb room firmware_size) 4 0 p3.1).0
 
     -- the detections, where nothing is refused
-    pub found-written : a.refusal ≡ 0 → (x old : List ℕ) → room ≡ length old → x ≡ put (firmware_bytes a.detections) 0 old
-        → x ≡ unless a.refusal old (written (firmware_bytes (detect_answer bits w h).detections) old)
-    found-written t x old r q =
-        let bytes = firmware_bytes (detect_answer bits w h).detections in
+    pub found-written : (t : Detections) → Ok t ≡ a → (x old : List ℕ) → room ≡ length old → x ≡ put (firmware_bytes t) 0 old
+        → x ≡ written (firmware_bytes (table_in (detect_answer bits w h))) old
+    found-written t i x old r q =
+        let bytes = firmware_bytes (table_in (detect_answer bits w h)) in
         let l : length bytes ≤ length old = omega (arith, room_left, answer_bytes bits w h) in
-        q ∙ ap (λ (a : Answer). put (firmware_bytes a.detections) 0 old) g ∙ put_front bytes old l ∙ unless_done a.refusal old (written bytes old) t
+        q ∙ ap (λ (a : Result Detections Refusal). put (firmware_bytes (table_in a)) 0 old) (i ∙ g) ∙ put_front bytes old l

@@ -11,7 +11,7 @@ ghost use Rattle.blocks.specs.Blocks.{mean_at, least_at, greatest_at, edge_at, n
 ghost use Rattle.binarize.specs.Binarize.{binarize_refusal, dark_after};
 ghost use Rattle.finders.specs.Answer.{held_in, finders_in, answer_of};
 ghost use Rattle.stored.specs.Stored.{stored_bytes};
-ghost use Rattle.candidates.specs.Candidates.{detect_answer};
+ghost use Rattle.candidates.specs.Candidates.{table_in, detect_answer};
 ghost use Rattle.firmware.specs.Firmware.{firmware_bytes};
 ghost use Rattle.entries.specs.Entries.{list_refusal, room_checks, candidates_refusal};
 
@@ -96,17 +96,17 @@ fn check_candidates(len: usize, width: u32, height: u32, room: usize) -> Result<
 pub fn plate_candidates(bits: &[u8], width: u32, height: u32, detections: &mut [u8]) -> u8
     ensures number { result ≡ candidates_refusal bits.now width height (length detections.old) }
     ensures detections { detections.new ≡ unless result detections.old
-        (written (firmware_bytes (detect_answer bits.now width height).detections) detections.old) }
+        (written (firmware_bytes (table_in (detect_answer bits.now width height))) detections.old) }
 {
     let n = number(check_candidates(bits.len(), width, height, detections.len()));
     if n != 0 {
         return n;
     }
-    let answer = candidates::detect_candidates(bits, width, height);
-    let refusal = answer.refusal;
-    if refusal == 0 {
-        let found = answer.detections;
-        firmware::put_detections(detections, found);
+    match candidates::detect_candidates(bits, width, height) {
+        Ok(found) => {
+            firmware::put_detections(detections, found);
+            0
+        }
+        Err(refusal) => u8::from(refusal),
     }
-    refusal
 }

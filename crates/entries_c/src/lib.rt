@@ -11,7 +11,7 @@ ghost use Rattle.blocks.specs.Blocks.{mean_at, least_at, greatest_at, edge_at, n
 ghost use Rattle.binarize.specs.Binarize.{binarize_refusal, dark_after};
 ghost use Rattle.finders.specs.Answer.{held_in, finders_in, answer_of};
 ghost use Rattle.stored.specs.Stored.{stored_bytes};
-ghost use Rattle.candidates.specs.Candidates.{detect_answer};
+ghost use Rattle.candidates.specs.Candidates.{table_in, detect_answer};
 ghost use Rattle.firmware.specs.Firmware.{firmware_bytes};
 ghost use Rattle.entries.specs.Entries.{list_refusal, candidates_refusal};
 
@@ -87,7 +87,7 @@ pub extern "C" fn plate_candidates(
 ) -> u8
     ensures number { result ≡ candidates_refusal bits.now width height (length detections.old) }
     ensures detections { detections.new ≡ unless result detections.old
-        (written (firmware_bytes (detect_answer bits.now width height).detections) detections.old) }
+        (written (firmware_bytes (table_in (detect_answer bits.now width height))) detections.old) }
 {
     entries::plate_candidates(bits, width, height, detections)
 }

@@ -1,16 +1,17 @@
 -- Two gray pictures of as many bytes that have the same bits, where the stages refuse nothing, have the same fix. Assumes nothing.
-use mathlib.Core.Path.{◌≡◌, refl, ap, ◌∙◌}
-use mathlib.Core.List.{List, map}
+use mathlib.Core.Path.{◌≡◌, refl, sym, ap, ◌∙◌}
+use mathlib.Core.List.{List, [], map}
+use Rattle.lcr_core.specs.Answer.{checked}
 use Prim.Native.Nat.{ℕ, zero, suc}
 use native.Mathlib.Omega.{arith}
 use lib.ListN.{length}
-use Rattle.candidates.specs.Candidates.{detect_answer}
-use Rattle.stages.specs.Stages.{stages_refusal, refusal_of}
+use Rattle.candidates.specs.Candidates.{table_of, detect_answer}
+use Rattle.stages.specs.Stages.{stages_checks, stages_refusal, refusal_of}
 use Rattle.stages.specs.Pictures.{bit_picture, denoised_picture}
 use Rattle.chain.specs.Chain.{chain_of, entry_refusal}
 use Rattle.chain.proofs.EntryLaws.{both_pass}
 use Rattle.exposure.specs.Exposure.{gray8, fix_of, entry_fix_of, SameFix}
-use Rattle.exposure.proofs.Fixes.{fix_written, fix_kept, entry_fix_written, entry_fix_kept}
+use Rattle.exposure.proofs.Fixes.{fix, fix_written, fix_kept, entry_fix_written, entry_fix_kept}
 
 module _ (p q : List ℕ) (w h s : ℕ) where
   abbrev SameBits : Type 0
@@ -45,7 +46,9 @@ module _ (p q : List ℕ) (w h s : ℕ) where
       fixes zero z =
           rw (fix_written q w h s gray bits denoised work (refused_same ∙ z), fix_written p w h s gray bits denoised work z, chain_same (e z), denoised_same (e z), e z)
       fixes (suc n) z =
-          rw (fix_kept q w h s gray bits denoised work (λ y. omega (arith, refused_same)), fix_kept p w h s gray bits denoised work (λ y. omega arith), refused_same)
+          fix_kept q w h s gray bits denoised work (λ y. omega (arith, refused_same))
+          ∙ ap (λ (len : ℕ). fix p w h s gray bits denoised work (checked (stages_checks len w h s gray8 (length gray) (length bits) (length denoised) (map length work)) (table_of [])) bits denoised) l
+          ∙ sym (fix_kept p w h s gray bits denoised work (λ y. omega arith))
 
       entry_fixes : (n : ℕ) → entry_refused p ≡ n → entry_fix_of w h s gray bits denoised work detections q ≡ entry_fix_of w h s gray bits denoised work detections p
       entry_fixes zero z =

@@ -20,8 +20,14 @@ use Rattle.binarize.proofs.Brighter.{dark_more}
 use Rattle.binarize.proofs.Unmarked.{none_dark}
 use Rattle.stages.specs.Stages.{stages_refusal}
 use Rattle.stages.specs.Pictures.{gray_picture, bit_picture, denoised_picture, edge_marks, near_marks}
-use Rattle.finders.specs.Answer.{find_refusal}
-use Rattle.candidates.specs.Candidates.{answered, detect_answer}
+use Rattle.std.specs.Prelude.{Ok}
+use Rattle.lcr_core.proofs.Answers.{checked_passed}
+use Rattle.finders.specs.Answer.{find_checks, find_refusal, finders_of}
+use Rattle.finders.specs.Search.{found}
+use Rattle.candidates.specs.declared.Detection.{Detection}
+use Rattle.candidates.specs.Candidates.{table_of, detections_of, detect_answer}
+use Rattle.candidates.proofs.Answers.{detect_number}
+use lib.ListN.{length}
 use Rattle.chain.specs.Chain.{chain_of}
 use Rattle.chain.proofs.Theorems.{six_is_left}
 use Rattle.exposure.specs.Exposure.{gray8, Brighter, Unmarked}
@@ -88,9 +94,9 @@ module _ (p : List ℕ) (w h s : ℕ) where
 
   -- and nothing is found
   pub unmarked_answer : (len gray bits denoised : ℕ) (work : List ℕ) → stages_refusal len w h s gray8 gray bits denoised work ≡ 0 → Unmarked p w h s
-      → chain_of p w h s gray8 ≡ answered 0 []
-  unfolding chain_of detect_answer
+      → chain_of p w h s gray8 ≡ Ok (table_of [])
+  unfolding chain_of detect_answer find_refusal
   unmarked_answer len gray bits denoised work z u =
       let d = denoised_picture p w h s gray8 in
-      let n : find_refusal d w h ≡ 0 = six_is_left p w h s gray8 len gray bits denoised work z ∙ rw (none_found d w h (unmarked_denoised u)) in
-      rw (n, no_detection d w h (unmarked_denoised u))
+      let n : find_refusal d w h ≡ 0 = sym (detect_number d w h) ∙ six_is_left p w h s gray8 len gray bits denoised work z ∙ rw (none_found d w h (unmarked_denoised u)) in
+      sym (checked_passed (find_checks (length d) w h (found d w h)) (table_of (detections_of d w h (finders_of d w h))) (sym n)) ∙ ap (λ (ds : List Detection). Ok (table_of ds)) (no_detection d w h (unmarked_denoised u))

@@ -1,17 +1,18 @@
 -- Other exposures of a gray picture. Document 02, N6: "add one whole number to every byte of a gray picture, none going below 0 or above 255, and the bits,
 -- the denoised bits, the finders, the detections and a refusal 6 are the same. This is stated of the chain on `Gray8` pictures, for pictures without any
 -- edge as well." Definitions only.
-use Rattle.std.specs.Prelude.{ℕ, ◌+◌, ◌-◌, ◌*◌, ◌≤◌, ◌<◌, ◌≡◌, List, [], map, length, Result}
+use Rattle.std.specs.Prelude.{ℕ, ◌+◌, ◌-◌, ◌*◌, ◌≤◌, ◌<◌, ◌≡◌, List, [], map, length, Result, Ok}
 use Rattle.lists.specs.Lists.{Each}
 use Rattle.image.specs.Gray.{channels_of}
 use Rattle.image.specs.declared.PixelFormat.TheVariants.{Gray8}
 use Rattle.blocks.specs.Blocks.{at}
 use Rattle.stages.specs.Pictures.{bit_picture, denoised_picture, edge_marks, near_marks, bits_after, denoised_after}
+use Rattle.lcr_core.specs.Outcome.{number_of}
 use Rattle.lcr_core.specs.declared.Refusal.{Refusal}
 use Rattle.finders.specs.declared.Finders.{Finders}
 use Rattle.finders.specs.Answer.{answer_of}
-use Rattle.candidates.specs.declared.Answer.{Answer}
-use Rattle.candidates.specs.Candidates.{answered}
+use Rattle.candidates.specs.declared.Detections.{Detections}
+use Rattle.candidates.specs.Candidates.{table_of}
 use Rattle.chain.specs.Chain.{chain_of, whole_answer, entry_answer, detections_after}
 
 -- ---- exposures of a picture p
@@ -42,7 +43,7 @@ pub record Brighter (k : ℕ) (p q : List ℕ) (w h s : ℕ) : Type 0 where
 
 -- `chain` (chain/src/lib.rt), and what `find_finders` answers for the denoised bits that it leaves
 pub record Fix : Type 0 where
-  pub answer : Answer
+  pub answer : Result Detections Refusal
   pub bits : List ℕ
   pub denoised : List ℕ
   pub finders : Result Finders Refusal
@@ -65,13 +66,14 @@ module _ (w h s : ℕ) (gray bits denoised : List ℕ) (work : List (List ℕ)) 
   abbrev pub fix_of : List ℕ → Fix
   fix_of p =
       let r = whole_answer p w h s gray8 gray bits denoised work in
-      let d = denoised_after r.refusal p w h s gray8 denoised in
-      record { answer = r; bits = bits_after r.refusal p w h s gray8 bits; denoised = d; finders = answer_of d w h }
+      let n = number_of r in
+      let d = denoised_after n p w h s gray8 denoised in
+      record { answer = r; bits = bits_after n p w h s gray8 bits; denoised = d; finders = answer_of d w h }
 
   -- of `plate_chain`, which is lent a slice of detections too
   abbrev pub entry_fix_of : List ℕ → List ℕ → EntryFix
   entry_fix_of detections p =
-      let n = (entry_answer p w h s gray8 gray bits denoised work detections).refusal in
+      let n = number_of (entry_answer p w h s gray8 gray bits denoised work detections) in
       let d = denoised_after n p w h s gray8 denoised in
       record {
         number = n;
@@ -91,8 +93,8 @@ module _ (w h s : ℕ) (gray bits denoised : List ℕ) (work : List (List ℕ)) 
 abbrev pub Unmarked : List ℕ → ℕ → ℕ → ℕ → Type 0
 Unmarked p w h s = Each (λ m. m ≡ 0) (edge_marks p w h s gray8) × Each (λ m. m ≡ 0) (near_marks p w h s gray8)
 
--- nothing is dark, in the bits and in the denoised bits, and nothing is found: 0 and no detection
+-- nothing is dark, in the bits and in the denoised bits, and nothing is found: done, and no detection
 pub record Blank (p : List ℕ) (w h s : ℕ) : Type 0 where
   pub bits : Each (λ b. b ≡ 0) (bit_picture p w h s gray8)
   pub denoised : Each (λ b. b ≡ 0) (denoised_picture p w h s gray8)
-  pub answer : chain_of p w h s gray8 ≡ answered 0 []
+  pub answer : chain_of p w h s gray8 ≡ Ok (table_of [])

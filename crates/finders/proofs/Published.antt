@@ -43,7 +43,7 @@ module _ (bits : List ℕ) (w h : ℕ) where
         (second_same (row_sightings_by core_of bits w h) (row_sightings_by counted_of bits w h) h (λ k l. line_same false (2 * k) (line_hits (row bits w (2 * k)) w) (u.rows k (omega (arith, l)))))
         (second_same (column_sightings_by core_of bits w h) (column_sightings_by counted_of bits w h) w (λ k l. line_same true (2 * k) (line_hits (column bits w (2 * k)) h) (u.columns k (omega (arith, l)))))
 
-    uncut_found : found bits w h ≡ found_by counted_of bits w h
+    pub uncut_found : found bits w h ≡ found_by counted_of bits w h
     unfolding found_by
     uncut_found = ap (folded (merge_next max_finders) (held [])) uncut_sightings
 

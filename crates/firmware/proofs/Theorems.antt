@@ -9,14 +9,17 @@ use lib.Ieee.{Float, to_bits, of_bits}
 use Rattle.lists.specs.Lists.{padded, tabulate, flat_map}
 use Rattle.lists.proofs.Folds.{flat_map-append}
 use Rattle.lists.proofs.Padded.{length-padded}
-use Rattle.lcr_core.specs.Outcome.{unless}
 use Rattle.little_endian.specs.Bytes.{bytes_le}
 use Rattle.little_endian.proofs.Pieces.{length_flat}
-use Rattle.finders.specs.Answer.{find_refusal, finders_of}
+use Rattle.finders.specs.Answer.{find_checks, finders_of}
 use Rattle.candidates.specs.declared.Detection.{Detection}
 use Rattle.candidates.specs.declared.Detections.{Detections}
 use Rattle.candidates.specs.Detection.{zero_detection}
-use Rattle.candidates.specs.Candidates.{table_of, answered, detections_of, detect_answer}
+use Rattle.candidates.specs.Candidates.{table_of, table_in, detections_of, detect_answer}
+use Rattle.candidates.proofs.Answers.{in_checked}
+use Rattle.lcr_core.specs.Answer.{checked}
+use Rattle.lcr_core.specs.Outcome.{Check}
+use Rattle.finders.specs.Search.{found}
 use Rattle.candidates.proofs.Theorems.{three_at_most}
 use Rattle.firmware.specs.Firmware.{finder_bytes, detection_bytes, detection_size, firmware_bytes, firmware_size}
 use Rattle.firmware.proofs.Bytes.{length_detection}
@@ -43,18 +46,17 @@ unfolding firmware_bytes bytes_le
 length_firmware t e = ap suc (length_flat detection_bytes detection_size length_detection t.at ∙ ap (λ z. detection_size * z) e)
 
 -- so has every answer, as that for a picture of bits
-answered_bytes : (n : ℕ) (ds : List Detection) → length ds ≤ 3 → length (firmware_bytes (answered n ds).detections) ≡ firmware_size
-answered_bytes n ds l = length_firmware (table_of (unless n [] ds)) (length-padded 3 zero_detection (unless n [] ds) (few n l))
-  where
-    few : (n : ℕ) → length ds ≤ 3 → length (unless n [] ds) ≤ 3
-    few zero l = l
-    few (suc n) l = omega arith
+answered_bytes : (cs : List Check) (ds : List Detection) → length ds ≤ 3 → length (firmware_bytes (table_in (checked cs (table_of ds)))) ≡ firmware_size
+answered_bytes cs ds l =
+    in_checked (λ (t : Detections). length (firmware_bytes t) ≡ firmware_size) cs (table_of ds)
+    (length_firmware (table_of []) (length-padded 3 zero_detection [] (omega arith)))
+    (length_firmware (table_of ds) (length-padded 3 zero_detection ds l))
 
-pub answer_bytes : (bits : List ℕ) (w h : ℕ) → length (firmware_bytes (detect_answer bits w h).detections) ≡ firmware_size
+pub answer_bytes : (bits : List ℕ) (w h : ℕ) → length (firmware_bytes (table_in (detect_answer bits w h))) ≡ firmware_size
 unfolding detect_answer
 answer_bytes bits w h =
     let fs = finders_of bits w h in
-    answered_bytes (find_refusal bits w h) (detections_of bits w h fs) (three_at_most bits w h fs)
+    answered_bytes (find_checks (length bits) w h (found bits w h)) (detections_of bits w h fs) (three_at_most bits w h fs)
 
 replicate_more : {A : Type 0} (z : A) (a b : ℕ) → replicate a z ++ replicate b z ≡ replicate (a + b) z
 replicate_more z zero b = ap (λ n. replicate n z) (let e : b ≡ 0 + b = omega arith in e)

@@ -1,6 +1,6 @@
 -- The whole text from what its parts write. Assumes nothing.
 use mathlib.Core.Path.{◌≡◌, refl, sym, ap, ap₂, ◌∙◌}
-use mathlib.Core.List.{List, [], ◌++◌}
+use mathlib.Core.List.{List, ◌++◌}
 use Prim.Native.Nat.{ℕ, ◌+◌, ◌*◌, ◌≤◌, ◌<◌}
 use native.Mathlib.Omega.{arith}
 use lib.ListN.{length, take, drop}
@@ -9,25 +9,25 @@ use borrow.Author.Tests.{lt-ltb, le-ltb}
 use Rattle.lists.specs.Lists.{flat_map}
 use Rattle.lists.proofs.Padded.{take-padded}
 use Rattle.binary.specs.Binary.{bytes_of}
-use Rattle.lcr_core.specs.Outcome.{refusal_number, unless}
+use Rattle.lcr_core.specs.Outcome.{refusal_number, number_of, unless}
 use Rattle.lcr_core.specs.declared.Refusal.{Refusal}
-use Rattle.std.specs.Prelude.{Ok, Err}
+use Rattle.std.specs.Prelude.{Result, Ok, Err}
+use Rattle.lcr_core.proofs.Answers.{checked_passed}
 use Rattle.lcr_core.proofs.Checks.{some_number, unless-refused, unless_done}
 use Rattle.little_endian.proofs.Round.{put_front}
 use Rattle.geometry.specs.declared.Finder.{Finder}
 use Rattle.geometry.specs.Order.{zero_finder}
 use Rattle.finders.specs.declared.Finders.{Finders}
 use Rattle.finders.proofs.Outcomes.{answer_table, answer_refusal}
-use Rattle.finders.specs.Search.{max_finders}
-use Rattle.finders.specs.Answer.{held_in, find_refusal, finders_of, answer_of, table_of as finders_table}
+use Rattle.finders.specs.Search.{max_finders, found}
+use Rattle.finders.specs.Answer.{held_in, find_checks, find_refusal, finders_of, answer_of, table_of as finders_table}
 use Rattle.ranking.specs.declared.Eight.{Eight}
 use Rattle.ranking.specs.Ranking.{in_use, eight_of}
-use Rattle.candidates.specs.declared.Answer.{Answer}
 use Rattle.candidates.specs.declared.Detection.{Detection}
 use Rattle.candidates.specs.declared.Detections.{Detections}
 use Rattle.candidates.specs.Detection.{zero_detection}
-use Rattle.candidates.specs.Candidates.{detections_of, table_of, from_answer, detect_answer}
-use Rattle.candidates.proofs.Answers.{from-eight}
+use Rattle.candidates.specs.Candidates.{detections_of, table_of, table_in, from_answer, detect_answer}
+use Rattle.candidates.proofs.Answers.{from-eight, detect_number}
 use Rattle.candidates.proofs.Theorems.{same_answer}
 use Rattle.candidates.proofs.Tails.{finders_tail, answer_tail}
 use Rattle.stages.specs.Pictures.{denoised_picture, left_after}
@@ -55,28 +55,34 @@ list_wrote w h t u j k r a b c d p q s fs ds e f =
 
 -- ---- the search
 module _ (bits : List ℕ) (w h : ℕ) where
-  -- the detections that an answer which is not refused holds
-  pub answer_holds : find_refusal bits w h ≡ 0 → detections_in (detect_answer bits w h).detections ≡ detections_of bits w h (finders_of bits w h)
-  unfolding detect_answer
-  answer_holds z =
-      let n = find_refusal bits w h in
-      let ds = detections_of bits w h (finders_of bits w h) in
-      ap (λ (ds : List Detection). detections_in (table_of ds)) (sym (unless_done n [] ds z)) ∙ take-padded 3 zero_detection ds
+  abbrev ds : List Detection
+  ds = detections_of bits w h (finders_of bits w h)
+
+  -- the answer where nothing is refused, and its detections
+  pub answer_passed : find_refusal bits w h ≡ 0 → detect_answer bits w h ≡ Ok (table_of ds)
+  unfolding detect_answer find_refusal
+  answer_passed z = sym (checked_passed (find_checks (length bits) w h (found bits w h)) (table_of ds) (sym z))
+
+  pub answer_holds : find_refusal bits w h ≡ 0 → detections_in (table_in (detect_answer bits w h)) ≡ ds
+  answer_holds z = ap (λ (a : Result Detections Refusal). detections_in (table_in a)) (answer_passed z) ∙ take-padded 3 zero_detection ds
 
   -- the text, by what is refused
+  refused_text : (fs : List Finder) (a : Result Detections Refusal) → (number_of a ≡ 0 → ⊥) → answer_text w h fs a ≡ refused_line (number_of a)
+  unfolding answer_text
+  refused_text fs (Ok t) z = absurd (z refl)
+  refused_text fs (Err refusal) z = refl
+
   pub text_refused : (find_refusal bits w h ≡ 0 → ⊥) → found_text bits w h ≡ refused_line (find_refusal bits w h)
-  unfolding found_text answer_text detect_answer
+  unfolding found_text
   text_refused z =
-      let n = find_refusal bits w h in
-      let fs = finders_of bits w h in
-      sym (unless-refused n (refused_line n) (list_text w h fs (detections_in (detect_answer bits w h).detections)) z)
+      let n = detect_number bits w h in
+      refused_text (finders_of bits w h) (detect_answer bits w h) (λ e. z (sym n ∙ e)) ∙ ap refused_line n
 
   pub text_listed : find_refusal bits w h ≡ 0 → found_text bits w h ≡ list_text w h (finders_of bits w h) (detections_of bits w h (finders_of bits w h))
-  unfolding found_text answer_text detect_answer
+  unfolding found_text answer_text
   text_listed z =
-      let n = find_refusal bits w h in
       let fs = finders_of bits w h in
-      sym (unless_done n (refused_line n) (list_text w h fs (detections_in (detect_answer bits w h).detections)) z) ∙ ap (list_text w h fs) (answer_holds z)
+      ap (answer_text w h fs) (answer_passed z) ∙ ap (list_text w h fs) (take-padded 3 zero_detection ds)
 
   pub found-refused : (refusal : Refusal) (n r : ℕ) (a b : List ℕ) → Err refusal ≡ answer_of bits w h → n ≡ refusal_number refusal → Wrote (refused_line n) 0 a r b
       → Wrote (found_text bits w h) 0 a r b
@@ -91,20 +97,19 @@ module _ (bits : List ℕ) (w h : ℕ) where
     found_table : f ≡ finders_table (finders_of bits w h)
     found_table = (answer_table bits w h f e).1
 
-    detected : (t : Eight) (x : Answer) → ((gs : List Finder) → f ≡ finders_table gs → t ≡ eight_of gs) → x ≡ from_answer bits w h (in_use t) → x.detections ≡ table_of (detections_of bits w h (finders_of bits w h))
-    unfolding detect_answer
-    detected t x k g =
-        let n = find_refusal bits w h in
-        let fs = finders_of bits w h in
-        let y : x ≡ detect_answer bits w h = g ∙ from-eight bits w h fs t (k fs found_table) ∙ sym (same_answer bits w h none) in
-        ap (λ (x : Answer). x.detections) y ∙ ap table_of (sym (unless_done n [] (detections_of bits w h fs) none))
+    -- of its first eight finders the detections are not refused
+    module _ (t : Eight) (k : (gs : List Finder) → f ≡ finders_table gs → t ≡ eight_of gs) where
+      detected : (x : Result Detections Refusal) → x ≡ from_answer bits w h (in_use t) → x ≡ Ok (table_of ds)
+      detected x g = g ∙ from-eight bits w h (finders_of bits w h) t (k (finders_of bits w h) found_table) ∙ sym (same_answer bits w h none) ∙ answer_passed none
 
-    pub found_listed : (t : Eight) (x : Answer) (r : ℕ) (a b : List ℕ) → ((gs : List Finder) → f ≡ finders_table gs → t ≡ eight_of gs) → x ≡ from_answer bits w h (in_use t)
-        → ((fs : List Finder) (ds : List Detection) → f ≡ finders_table fs → x.detections ≡ table_of ds → Wrote (list_text w h fs ds) 0 a r b) → Wrote (found_text bits w h) 0 a r b
-    found_listed t x r a b k g p =
-        let fs = finders_of bits w h in
-        let ds = detections_of bits w h fs in
-        wrote_as (list_text w h fs ds) (found_text bits w h) 0 r a b (sym (text_listed none)) (p fs ds found_table (detected t x k g))
+      pub detected-refused : (refusal : Refusal) → Err refusal ≡ from_answer bits w h (in_use t) → ⊥
+      detected-refused refusal g = some_number refusal (ap number_of (detected (Err refusal) g))
+
+      pub found_listed : (u : Detections) (r : ℕ) (a b : List ℕ) → Ok u ≡ from_answer bits w h (in_use t)
+          → ((fs : List Finder) (ds : List Detection) → f ≡ finders_table fs → u ≡ table_of ds → Wrote (list_text w h fs ds) 0 a r b) → Wrote (found_text bits w h) 0 a r b
+      found_listed u r a b g p =
+          let fs = finders_of bits w h in
+          wrote_as (list_text w h fs ds) (found_text bits w h) 0 r a b (sym (text_listed none)) (p fs ds found_table (ap table_in (detected (Ok u) g)))
 
 -- ---- the picture
 -- what stands behind a picture's bits is not read

@@ -12,7 +12,9 @@ use lib.Seq.{take_all, get_or-take, get_or-drop}
 use borrow.Author.Tests.{lt-ltb, le-ltb, ltb-true, ltb-false}
 use Rattle.lists.specs.Lists.{tabulate}
 use Rattle.lists.proofs.Tabulate.{tabulate_ext}
-use Rattle.lcr_core.specs.Outcome.{unless}
+use Rattle.std.specs.Prelude.{Result, Ok}
+use Rattle.lcr_core.specs.Outcome.{number_of, unless}
+use Rattle.lcr_core.specs.declared.Refusal.{Refusal}
 use Rattle.lcr_core.proofs.Checks.{unless_done}
 use Rattle.little_endian.specs.Bytes.{read_le}
 use Rattle.binary.specs.Binary.{byte_of, bytes_of}
@@ -22,16 +24,17 @@ use Rattle.binarize.specs.Binarize.{is_dark}
 use Rattle.finders.specs.Search.{found}
 use Rattle.finders.specs.Answer.{is_over, find_refusal, finders_of}
 use Rattle.geometry.specs.declared.Finder.{Finder}
-use Rattle.candidates.specs.declared.Answer.{Answer}
 use Rattle.candidates.specs.declared.Detection.{Detection}
+use Rattle.candidates.specs.declared.Detections.{Detections}
 use Rattle.candidates.specs.Candidates.{detections_of, table_of, detect_answer}
+use Rattle.candidates.proofs.Answers.{detect_number}
 use Rattle.stages.specs.Pictures.{gray_picture, bit_picture, denoised_picture}
 use Rattle.chain.specs.Chain.{chain_of}
 use Rattle.chain.proofs.Theorems.{six_is_left}
 use Rattle.listing_text.specs.Inner.{found_text}
 use Rattle.listing_text.specs.Listing.{width_of, height_of, picture_of, max_pixels, listing_refusal, refused_line, list_text, answer_text, chain_text, listing_of}
 use Rattle.listing_text.proofs.Refusals.{passed, stages_pass}
-use Rattle.listing_text.proofs.Listed.{text_refused, text_listed}
+use Rattle.listing_text.proofs.Listed.{answer_passed, text_refused, text_listed}
 
 -- ---- an input that isn't refused
 -- its denoised bits
@@ -39,7 +42,7 @@ abbrev pub bits_of : List ℕ → List ℕ
 bits_of l = denoised_picture (picture_of l) (width_of l) (height_of l) (width_of l) 1
 
 -- what the chain answers for it
-abbrev pub answer_for : List ℕ → Answer
+abbrev pub answer_for : List ℕ → Result Detections Refusal
 answer_for l = chain_of (picture_of l) (width_of l) (height_of l) (width_of l) 1
 
 -- whether there is a 129th finder
@@ -56,7 +59,7 @@ listed_detections l = detections_of (bits_of l) (width_of l) (height_of l) (list
 
 module _ (l : List ℕ) (z : listing_refusal l ≡ 0) where
   -- the chain refuses by 6 or by nothing
-  pub six_or-none : (answer_for l).refusal ≡ cond (full_table l) 6 0
+  pub six_or-none : number_of (answer_for l) ≡ cond (full_table l) 6 0
   six_or-none =
       let w = width_of l in
       let h = height_of l in
@@ -64,15 +67,13 @@ module _ (l : List ℕ) (z : listing_refusal l ≡ 0) where
       six_is_left p w h w 1 (length p) max_pixels 5000 5000 (1600 ∷ 1600 ∷ 1600 ∷ 1600 ∷ 1600 ∷ []) (stages_pass w h p (passed l z).1)
 
   search_refuses : find_refusal (bits_of l) (width_of l) (height_of l) ≡ cond (full_table l) 6 0
-  unfolding chain_of detect_answer
-  search_refuses = six_or-none
+  unfolding chain_of
+  search_refuses = sym (detect_number (bits_of l) (width_of l) (height_of l)) ∙ six_or-none
 
   -- the detections that are printed are those that the chain answers
-  pub of_the_chain : full_table l ≡ false → (answer_for l).detections ≡ table_of (listed_detections l)
-  unfolding chain_of detect_answer
-  of_the_chain e =
-      let n : find_refusal (bits_of l) (width_of l) (height_of l) ≡ 0 = search_refuses ∙ ap (λ (b : Bool). cond b 6 0) e in
-      ap table_of (sym (unless_done (find_refusal (bits_of l) (width_of l) (height_of l)) [] (listed_detections l) n))
+  pub of_the_chain : full_table l ≡ false → answer_for l ≡ Ok (table_of (listed_detections l))
+  unfolding chain_of
+  of_the_chain e = answer_passed (bits_of l) (width_of l) (height_of l) (search_refuses ∙ ap (λ (b : Bool). cond b 6 0) e)
 
   text : (b : Bool) → find_refusal (bits_of l) (width_of l) (height_of l) ≡ cond b 6 0
       → found_text (bits_of l) (width_of l) (height_of l) ≡ cond b (refused_line 6) (list_text (width_of l) (height_of l) (listed_finders l) (listed_detections l))

@@ -3,18 +3,18 @@
 -- chain on `Gray8` and prints `refused N`, or width, height, finder count, detection count; a line per finder (x, y, module as eight hexadecimal digits,
 -- confirmations in decimal); a line per detection (version, alignment x and y or `-`, eight transform numbers of sixteen hexadecimal digits)." Document 02,
 -- N8: "The listing's detection line ends with both", score and mean module, "eight hexadecimal digits each". Definitions only.
-use Rattle.std.specs.Prelude.{ℕ, ◌+◌, ◌*◌, cond, List, [], ◌∷◌, ◌++◌, ltb, length, take, drop, get_or, Float, Option, Some, None}
+use Rattle.std.specs.Prelude.{ℕ, ◌+◌, ◌*◌, cond, List, [], ◌∷◌, ◌++◌, ltb, length, take, drop, get_or, Float, Option, Some, None, Result, Ok, Err}
 use Rattle.std.specs.Float.{nan}
 use Rattle.lists.specs.Lists.{tabulate, flat_map}
 use Rattle.little_endian.specs.Bytes.{read_le}
-use Rattle.lcr_core.specs.Outcome.{Check, first_of, unless, zero_side, large_side}
+use Rattle.lcr_core.specs.Outcome.{Check, refusal_number, first_of, unless, zero_side, large_side}
+use Rattle.lcr_core.specs.declared.Refusal.{Refusal}
 use Rattle.lcr_core.specs.declared.Refusal.TheVariants.{ZeroSide, LargeSide, ShortPicture, ShortOutput}
 use Rattle.image.specs.declared.PixelFormat.TheVariants.{Gray8}
 use Rattle.image.specs.Gray.{channels_of}
 use Rattle.geometry.specs.declared.Finder.{Finder}
 use Rattle.finders.specs.Search.{max_finders}
 use Rattle.finders.specs.Answer.{finders_of}
-use Rattle.candidates.specs.declared.Answer.{Answer}
 use Rattle.candidates.specs.declared.Detection.{Detection}
 use Rattle.candidates.specs.declared.Detections.{Detections}
 use Rattle.stages.specs.Pictures.{denoised_picture}
@@ -95,9 +95,10 @@ list_text w h fs ds = head_line w h (length fs) (length ds) ++ (flat_map finder_
 abbrev pub detections_in : Detections → List Detection
 detections_in t = take t.count t.at
 
--- of a picture with the finders fs and the chain's answer a: `refused N`, or the finders and the answer's detections
-unfoldable pub answer_text : ℕ → ℕ → List Finder → Answer → List ℕ
-answer_text w h fs a = unless a.refusal (refused_line a.refusal) (list_text w h fs (detections_in a.detections))
+-- of a picture with the finders fs and the chain's answer: `refused N`, or the finders and the answer's detections
+unfoldable pub answer_text : ℕ → ℕ → List Finder → Result Detections Refusal → List ℕ
+answer_text w h fs (Ok t) = list_text w h fs (detections_in t)
+answer_text w h fs (Err refusal) = refused_line (refusal_number refusal)
 
 -- the chain on `Gray8`, p the picture in rows of w bytes: the finders are those of the denoised bits, in which the chain looks for its detections
 unfoldable pub chain_text : List ℕ → ℕ → ℕ → List ℕ

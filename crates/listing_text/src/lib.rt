@@ -49,10 +49,10 @@ fn put_found(bits: &[u8], width: u32, height: u32, text: &mut [u8]) -> u32
     ensures most { result ≤ listing_room }
 {
     match finders::find_finders(bits, width, height) {
-        Ok(found) => {
-            let answer = candidates::candidates_in(bits, width, height, eight_in(found));
-            put_list(text, width, height, found, answer.detections)
-        }
+        Ok(found) => match candidates::candidates_in(bits, width, height, eight_in(found)) {
+            Ok(detections) => put_list(text, width, height, found, detections),
+            Err(refusal) => put_refusal(text, u8::from(refusal)),
+        },
         Err(refusal) => put_refusal(text, u8::from(refusal)),
     }
 }

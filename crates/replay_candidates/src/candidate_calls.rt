@@ -2,12 +2,19 @@
 ghost use Rattle.std.specs.Prelude.{◌≡◌, ◌≤◌, take};
 ghost use Rattle.candidates.specs.Candidates.{from_answer};
 
-use candidates::Answer;
+use candidates::{Detection, Detections};
 use geometry::Finder;
+use lcr_core::Refusal;
 use record::{slices, values};
 
 // The detections of a table's first n finders, lent as a list.
-fn lend(bits: &[u8], width: u32, height: u32, list: [Finder; 512], n: usize) -> Answer
+fn lend(
+    bits: &[u8],
+    width: u32,
+    height: u32,
+    list: [Finder; 512],
+    n: usize,
+) -> Result<Detections, Refusal>
     requires { n ≤ 512 }
     ensures { result ≡ from_answer bits.now width height (take n list) }
 {
@@ -23,6 +30,16 @@ fn list_at(p: &[u8]) -> [Finder; 512] {
     list
 }
 
+// An answer's bytes: after a refusal its number and the empty table.
+fn put_answer(out: &mut [u8], answer: Result<Detections, Refusal>) -> usize {
+    match answer {
+        Ok(found) => values::put_detections(out, 0, found),
+        Err(refusal) => {
+            values::put_detections(out, u8::from(refusal), candidates::no_detections())
+        }
+    }
+}
+
 fn candidates_from(p: &[u8], out: &mut [u8]) -> usize {
     let n = little_endian::get::<u32>(p, 8) as usize;
     if 512 < n {
@@ -31,40 +48,42 @@ fn candidates_from(p: &[u8], out: &mut [u8]) -> usize {
     if p.len() < 12 + 16 * n {
         return 0;
     }
-    let a = lend(
+    let answer = lend(
         slices::rest(p, 12 + 16 * n),
         little_endian::get::<u32>(p, 0),
         little_endian::get::<u32>(p, 4),
         list_at(p),
         n,
     );
-    let found = a.detections;
-    values::put_detections(out, a.refusal, found)
+    put_answer(out, answer)
 }
 
 fn detect_candidates(p: &[u8], out: &mut [u8]) -> usize {
-    let a = candidates::detect_candidates(
+    let answer = candidates::detect_candidates(
         slices::rest(p, 8),
         little_endian::get::<u32>(p, 0),
         little_endian::get::<u32>(p, 4),
     );
-    let found = a.detections;
-    values::put_detections(out, a.refusal, found)
+    put_answer(out, answer)
+}
+
+// The table of the first detection, if there is one.
+fn table_of(first: Option<Detection>) -> Detections {
+    let mut found = candidates::no_detections();
+    if let Some(d) = first {
+        found.at[0] = d;
+        found.count = 1;
+    }
+    found
 }
 
 fn detect(p: &[u8], out: &mut [u8]) -> usize {
-    let r = candidates::detect(
+    let first = candidates::detect(
         slices::rest(p, 8),
         little_endian::get::<u32>(p, 0),
         little_endian::get::<u32>(p, 4),
     );
-    let mut found = candidates::no_detections();
-    if r.found {
-        let first = r.detection;
-        found.at[0] = first;
-        found.count = 1;
-    }
-    values::put_detections(out, r.refusal, found)
+    put_answer(out, first.map(|first| table_of(first)))
 }
 
 pub fn answer(function: u8, p: &[u8], out: &mut [u8]) -> usize {

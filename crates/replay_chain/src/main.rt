@@ -15,7 +15,7 @@ fn chain(p: &[u8], out: &mut [u8]) -> usize {
     let mut greatest = [0u8; slices::LONGEST];
     let mut edges = [0u8; slices::LONGEST];
     let mut nears = [0u8; slices::LONGEST];
-    let a = chain::chain(
+    let answer = chain::chain(
         slices::rest(p, 45),
         little_endian::get::<u32>(p, 0),
         little_endian::get::<u32>(p, 4),
@@ -30,8 +30,13 @@ fn chain(p: &[u8], out: &mut [u8]) -> usize {
         slices::lent(&mut edges, p, 37),
         slices::lent(&mut nears, p, 41),
     );
-    let found = a.detections;
-    let at = (values::put_detections(out, a.refusal, found) % 1024) as u16;
+    let end = match answer {
+        Ok(found) => values::put_detections(out, 0, found),
+        Err(refusal) => {
+            values::put_detections(out, u8::from(refusal), candidates::no_detections())
+        }
+    };
+    let at = (end % 1024) as u16;
     slices::put_lent(out, at, &gray, p, 13);
     slices::put_lent(out, at + 12, &bits, p, 17);
     slices::put_lent(out, at + 24, &denoised, p, 21);

@@ -1,10 +1,10 @@
 -- `candidates::build_detection` meets its contract, by the version. Assumes nothing.
+use mathlib.Core.Path.{◌∙◌}
 use Rattle.candidates.proofs.Building.{of_version, of_none}
 use Rattle.candidates.proofs.build_detection.Goals as goal
 
-pub returns-in-Some : goal.returns-in-Some
-returns-in-Some c =
-    of_version _ _ _ _ _ _ c.estimate_version.ensures _ _ c.in-Some.is c.build_with.ensures
+pub returns-in_err-v : goal.returns-in_err-v
+returns-in_err-v c = c.from_residual.ensures ∙ of_none _ _ _ _ _ _ c.estimate_version.ensures c.in_err-v.was
 
-pub returns-in-None : goal.returns-in-None
-returns-in-None c = of_none _ _ _ _ _ _ c.estimate_version.ensures _ c.in-None.is c.nothing_built.ensures
+pub returns : goal.returns
+returns c = of_version _ _ _ _ _ _ c.estimate_version.ensures _ c.in_ok-v.was _ c.build_with.ensures

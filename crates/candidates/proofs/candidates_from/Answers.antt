@@ -4,4 +4,4 @@ use Rattle.candidates.proofs.Answers.{from-eight}
 use Rattle.candidates.proofs.candidates_from.Goals as goal
 
 pub returns : goal.returns
-returns c = c.candidates_in.ensures ∙ from-eight _ _ _ _ _ c.first_eight-t.ensures
+returns c = c.candidates_in.ensures ∙ from-eight _ _ _ _ _ c.first_eight.ensures

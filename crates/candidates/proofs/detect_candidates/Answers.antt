@@ -2,10 +2,8 @@
 use Rattle.candidates.proofs.Answers.{searched, search_refused}
 use Rattle.candidates.proofs.detect_candidates.Goals as goal
 
-pub returns-in-Ok : goal.returns-in-Ok
-returns-in-Ok c =
-    let a = c.args in
-    searched a.bits.now a.width a.height _ _ c.in-Ok.ensures c.eight_in.ensures _ c.answer_with.ensures
+pub returns-in_err-found : goal.returns-in_err-found
+returns-in_err-found c = let a = c.args in search_refused a.bits.now a.width a.height _ _ c.from_residual.ensures.1 c.in_err-found.ensures
 
-pub returns-in-Err : goal.returns-in-Err
-returns-in-Err c = let a = c.args in search_refused a.bits.now a.width a.height c.in-Err.refusal _ _ c.in-Err.ensures c.from.ensures c.no_detections.ensures
+pub returns : goal.returns
+returns c = let a = c.args in searched a.bits.now a.width a.height _ _ c.in_ok-found.ensures c.eight_in.ensures _ c.built_triples.ensures

@@ -21,4 +21,4 @@ returns-in-Err-write_list c =
 
 pub returns-in-Err : goal.returns-in-Err
 returns-in-Err c =
-    record { number = list_refused _ _ _ _ c.in-Err.refusal _ c.in-Err.ensures c.from.ensures; list = unless_error c.in-Err.refusal _ _ _ (sym c.from.ensures) }
+    record { number = list_refused _ _ _ _ c.in-Err.refusal _ c.in-Err.ensures c.from-in-Err.ensures; list = unless_error c.in-Err.refusal _ _ _ (sym c.from-in-Err.ensures) }
