@@ -107,6 +107,6 @@ pub fn plate_candidates(bits: &[u8], width: u32, height: u32, detections: &mut [
             firmware::put_detections(detections, found);
             0
         }
-        Err(refusal) => u8::from(refusal),
+        Err(too_many) => u8::from(too_many),
     }
 }

@@ -17,4 +17,4 @@ returns-in-Ok c =
 pub returns-in-Err : goal.returns-in-Err
 returns-in-Err c =
     let m = sym c.from.ensures in
-    record { number = search_answered _ _ _ _ _ (c.number-n.ensures ∙ c.check_candidates.ensures) c.if-n-ne0.false _ c.in-Err.ensures _ m; detections = unless_error c.in-Err.refusal _ _ _ m }
+    record { number = search_answered _ _ _ _ _ (c.number-n.ensures ∙ c.check_candidates.ensures) c.if-n-ne0.false _ c.in-Err.ensures _ m; detections = unless_error c.in-Err.too_many _ _ _ m }
