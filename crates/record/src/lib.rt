@@ -149,29 +149,27 @@ pub fn answer_line(out: &[u8; ANSWER], n: usize) -> Line
     Line { text, len }
 }
 
+// What a replay program answers: to a function's number and a payload, the bytes of the answer, and how many they are: none for a function that it does not
+// know.
+pub trait Answers {
+    fn answer(function: u8, payload: &[u8], out: &mut [u8]) -> usize;
+}
+
 // Reads a record and prints its answer; false where the input ends, or the line cannot be written.
-fn step<F: Fn(u8, &[u8], &mut [u8]) -> usize>(
-    payload: &mut [u8; slices::LONGEST],
-    answer: &F,
-) -> bool
-    requires { F.IsAlwaysCallable answer.now }
-{
+fn step<A: Answers>(payload: &mut [u8; slices::LONGEST]) -> bool {
     let Some(c) = read(payload) else {
         return false;
     };
     let mut out = [0u8; ANSWER];
-    let n = answer(c.function, slices::front(payload, c.len), &mut out);
+    let n = A::answer(c.function, slices::front(payload, c.len), &mut out);
     io::write_all(1, answer_line(&out, n).as_slice())
 }
 
-// Runs the calls of standard input, up to four thousand million, and prints a line for each. To a function's number and a payload, `answer` writes the
-// bytes of the answer, and tells how many they are: none for a function that it does not know.
-pub fn run<F: Fn(u8, &[u8], &mut [u8]) -> usize>(answer: F)
-    requires { F.IsAlwaysCallable answer }
-{
+// Runs the calls of standard input, up to four thousand million, and prints a line for each.
+pub fn run<A: Answers>() {
     let mut payload = [0u8; slices::LONGEST];
     for _ in 0..4_000_000_000u32 {
-        if !step(&mut payload, &answer) {
+        if !step::<A>(&mut payload) {
             return;
         }
     }

@@ -5,17 +5,21 @@ mod core_calls;
 mod finder_calls;
 mod geometry_calls;
 
-// The answer's bytes to one call, and how many they are: none for a function that is not known.
-fn answer(function: u8, p: &[u8], out: &mut [u8]) -> usize {
-    if function < 32 {
-        return core_calls::answer(function, p, out);
+// The calls that this program answers.
+struct Calls;
+
+impl record::Answers for Calls {
+    fn answer(function: u8, p: &[u8], out: &mut [u8]) -> usize {
+        if function < 32 {
+            return core_calls::answer(function, p, out);
+        }
+        if function < 48 {
+            return finder_calls::answer(function, p, out);
+        }
+        geometry_calls::answer(function, p, out)
     }
-    if function < 48 {
-        return finder_calls::answer(function, p, out);
-    }
-    geometry_calls::answer(function, p, out)
 }
 
 fn main() {
-    record::run(answer);
+    record::run::<Calls>();
 }

@@ -4,14 +4,18 @@
 mod alignment_calls;
 mod candidate_calls;
 
-// The answer's bytes to one call, and how many they are: none for a function that is not known.
-fn answer(function: u8, p: &[u8], out: &mut [u8]) -> usize {
-    if function < 80 {
-        return alignment_calls::answer(function, p, out);
+// The calls that this program answers.
+struct Calls;
+
+impl record::Answers for Calls {
+    fn answer(function: u8, p: &[u8], out: &mut [u8]) -> usize {
+        if function < 80 {
+            return alignment_calls::answer(function, p, out);
+        }
+        candidate_calls::answer(function, p, out)
     }
-    candidate_calls::answer(function, p, out)
 }
 
 fn main() {
-    record::run(answer);
+    record::run::<Calls>();
 }

@@ -54,14 +54,18 @@ fn chain(p: &[u8], out: &mut [u8]) -> usize {
     at as usize + 96
 }
 
-// The answer's bytes to one call, and how many they are: none for a function that is not known.
-fn answer(function: u8, p: &[u8], out: &mut [u8]) -> usize {
-    match function {
-        96 => chain(p, out),
-        _ => 0,
+// The calls that this program answers.
+struct Calls;
+
+impl record::Answers for Calls {
+    fn answer(function: u8, p: &[u8], out: &mut [u8]) -> usize {
+        match function {
+            96 => chain(p, out),
+            _ => 0,
+        }
     }
 }
 
 fn main() {
-    record::run(answer);
+    record::run::<Calls>();
 }

@@ -64,16 +64,20 @@ fn denoised(p: &[u8], out: &mut [u8]) -> usize {
     13
 }
 
-// The answer's bytes to one call, and how many they are: none for a function that is not known.
-fn answer(function: u8, p: &[u8], out: &mut [u8]) -> usize {
-    match function {
-        16 => gray_buffer(p, out),
-        17 => binarize(p, out),
-        18 => denoised(p, out),
-        _ => 0,
+// The calls that this program answers.
+struct Calls;
+
+impl record::Answers for Calls {
+    fn answer(function: u8, p: &[u8], out: &mut [u8]) -> usize {
+        match function {
+            16 => gray_buffer(p, out),
+            17 => binarize(p, out),
+            18 => denoised(p, out),
+            _ => 0,
+        }
     }
 }
 
 fn main() {
-    record::run(answer);
+    record::run::<Calls>();
 }
