@@ -43,7 +43,7 @@ enum { PLATE_GRAY8 = 1, PLATE_RGB8 = 3, PLATE_RGBA8 = 4 };
 #define PLATE_BLOCKS(w, h) ((((size_t)(w) + 7) / 8) * (((size_t)(h) + 7) / 8))
 #define PLATE_DETECTION_BYTES 367
 
-/* A call takes less stack than this, whatever the picture: some 29,200 bytes, and where the dynamic linker binds memcpy at
+/* A call takes less stack than this, whatever the picture: some 11,000 bytes, and where the dynamic linker binds memcpy at
    its first call what it takes for that, some 3,000 bytes as measured (README.md). It holds for the single stages of sirvoltha_stages.h too. */
 #define PLATE_STACK_BYTES 40960
 

@@ -4,6 +4,7 @@
 ghost use Rattle.std.specs.Prelude.{◌≡◌};
 ghost use Rattle.alignment.specs.Alignment.{match_of, searched_of, located_of, locate_of, rebuilt_of, refine_of};
 
+use binary::picture::LentBits;
 use geometry::{Corners, build_transform};
 use lcr_core::Refusal;
 use lcr_core::version::Version;
@@ -23,32 +24,29 @@ pub struct Refined {
 
 // The marker by its 5 × 5 modules, through the transform, or none.
 pub fn match_alignment(
-    bits: &[u8],
-    width: u32,
-    height: u32,
+    bits: LentBits<'_>,
     t: Transform,
     version: Version,
 ) -> Result<Option<Point>, Refusal>
-    ensures { result ≡ match_of bits.now width height t version.0 }
+    ensures { let p = bits.entry in result ≡ match_of p.bits.now p.width p.height t version.0 }
 {
-    let view = View::new(bits, width, height, version, t)?;
+    let view = View::new(bits, version, t)?;
     Ok(view.matched())
 }
 
 impl<'a> View<'a> {
     // The marker by runs along rows, about the place where the transform puts its centre. A view's picture is not refused.
     fn searched(&self, module: f32) -> Option<Point>
-        ensures { let s = self.now in result ≡ searched_of s.bits.now s.width s.height s.transform s.version.0 «module» }
+        ensures { let s = self.now in result ≡ searched_of s.picture.bits.now s.picture.width s.picture.height s.transform s.version.0 «module» }
     {
-        let (width, height) = (self.width as u32, self.height as u32);
         let c = self.centre();
         let predicted = self.transform.apply(c, c);
-        find_alignment(self.bits, width, height, predicted, module).unwrap_or(None)
+        find_alignment(LentBits::from(self.picture), predicted, module).unwrap_or(None)
     }
 
     // The marker by its modules, or else by runs along rows.
     fn located(&self, module: f32) -> Option<Point>
-        ensures { let s = self.now in result ≡ located_of s.bits.now s.width s.height s.transform s.version.0 «module» }
+        ensures { let s = self.now in result ≡ located_of s.picture.bits.now s.picture.width s.picture.height s.transform s.version.0 «module» }
     {
         if self.version.0 < 2 {
             return None;
@@ -63,16 +61,14 @@ impl<'a> View<'a> {
 
 // The same, refused where the picture or the version is.
 pub fn locate_alignment(
-    bits: &[u8],
-    width: u32,
-    height: u32,
+    bits: LentBits<'_>,
     t: Transform,
     version: Version,
     module: f32,
 ) -> Result<Option<Point>, Refusal>
-    ensures { result ≡ locate_of bits.now width height t version.0 «module» }
+    ensures { let p = bits.entry in result ≡ locate_of p.bits.now p.width p.height t version.0 «module» }
 {
-    let view = View::new(bits, width, height, version, t)?;
+    let view = View::new(bits, version, t)?;
     Ok(view.located(module))
 }
 
@@ -95,17 +91,15 @@ fn rebuilt(
 
 // The marker again, through a better transform, and the transform through it.
 pub fn refine_alignment(
-    bits: &[u8],
-    width: u32,
-    height: u32,
+    bits: LentBits<'_>,
     corners: Corners,
     version: Version,
     transform: Transform,
     module: f32,
 ) -> Result<Refined, Refusal>
-    ensures { result ≡ refine_of bits.now width height corners version.0 transform «module» }
+    ensures { let p = bits.entry in result ≡ refine_of p.bits.now p.width p.height corners version.0 transform «module» }
 {
-    let view = View::new(bits, width, height, version, transform)?;
+    let view = View::new(bits, version, transform)?;
     let marker = view.located(module);
     let transform = rebuilt(corners, marker, version, transform);
     Ok(Refined { transform, marker })

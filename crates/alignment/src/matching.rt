@@ -26,7 +26,7 @@ impl<'a> View<'a> {
     // Module k of 21 × 21, half a module apart, from n / 2 on: 1 for dark.
     fn colour(&self, n: u16, k: u16) -> u8
         requires { (n ≤ 4096) × (k < 441) }
-        ensures { let s = self.now in result ≡ colour_at s.bits.now s.width s.height s.transform n k }
+        ensures { let s = self.now in result ≡ colour_at s.picture.bits.now s.picture.width s.picture.height s.transform n k }
     {
         u8::from(self.is_dark(half_of(n + k % 21), half_of(n + k / 21)))
     }
@@ -34,7 +34,7 @@ impl<'a> View<'a> {
     // All of them.
     fn fill_colours(&self, n: u16, colours: &mut [u8])
         requires { (n ≤ 4096) × (length colours.old ≡ 441) }
-        ensures { let s = self.now in colours.new ≡ tabulate 441 (colour_at s.bits.now s.width s.height s.transform n) }
+        ensures { let s = self.now in colours.new ≡ tabulate 441 (colour_at s.picture.bits.now s.picture.width s.picture.height s.transform n) }
     {
         for (k, place) in colours.iter_mut().enumerate() {
             *place = self.colour(n, k as u16);
@@ -43,7 +43,7 @@ impl<'a> View<'a> {
 
     // The first sweep. Its 169 sites have 25 modules each, but only 441 different ones.
     fn first_sweep(&self) -> Site
-        ensures { let s = self.now in result ≡ sweep_best s.bits.now s.width s.height s.transform (centre_of s.version.0) 13 half no_site }
+        ensures { let s = self.now in result ≡ sweep_best s.picture.bits.now s.picture.width s.picture.height s.transform (centre_of s.version.0) 13 half no_site }
     {
         let mut colours = [0u8; 441];
         self.fill_colours(2 * self.version.side() - 23, &mut colours);
@@ -58,10 +58,10 @@ impl<'a> View<'a> {
 
     // The three sweeps.
     fn best_site(&self) -> Site
-        ensures { let s = self.now in SameFrom 23 result (best_of s.bits.now s.width s.height s.transform (centre_of s.version.0)) }
+        ensures { let s = self.now in SameFrom 23 result (best_of s.picture.bits.now s.picture.width s.picture.height s.transform (centre_of s.version.0)) }
     {
         let c = self.centre();
-        let none = &self.bits[..0];
+        let none = &self.picture.bits[..0];
         let a = self.first_sweep();
         let b = self.sweep(c, 9, 0.125, a, none);
         self.sweep(c, 9, 0.03125, b.raised(), none)
@@ -69,7 +69,7 @@ impl<'a> View<'a> {
 
     // The marker at the best site, where 23 modules agree.
     pub fn matched(&self) -> Option<Point>
-        ensures { let s = self.now in result ≡ matched_of s.bits.now s.width s.height s.transform s.version.0 }
+        ensures { let s = self.now in result ≡ matched_of s.picture.bits.now s.picture.width s.picture.height s.transform s.version.0 }
     {
         if self.version.0 < 2 {
             return None;

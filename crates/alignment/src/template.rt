@@ -8,8 +8,7 @@ ghost use Rattle.alignment.specs.Alignment.{alignment_refusal};
 ghost use Rattle.alignment.specs.Counting.{Counted, UpTo, least_of};
 ghost use Rattle.alignment.specs.Known.{KnownAt, Known, raised_of};
 
-use binary::dark;
-use binary::refusal::check_bits;
+use binary::picture::{BitPicture, LentBits};
 use float::to_u32;
 use lcr_core::Refusal;
 use lcr_core::version::Version;
@@ -86,32 +85,26 @@ fn wants_dark(i: u8, j: u8) -> bool
 // A picture that is not refused, the version of the symbol in it, and the map from its modules to pixels.
 #[derive(Clone, Copy)]
 pub struct View<'a> {
-    pub bits: &'a [u8],
-    pub width: u16,
-    pub height: u16,
+    pub picture: BitPicture<'a>,
     pub version: Version,
     pub transform: Transform,
-    pub ghost passes: { alignment_refusal (length bits.now) width height version.0 ≡ 0 },
+    pub ghost passes: { alignment_refusal (length picture.bits.now) picture.width picture.height version.0 ≡ 0 },
 }
 
 impl<'a> View<'a> {
     // The view of a picture, or refusal 1, 2, 4 or 7, in this order.
     pub fn new(
-        bits: &'a [u8],
-        width: u32,
-        height: u32,
+        bits: LentBits<'a>,
         version: Version,
         transform: Transform,
     ) -> Result<View<'a>, Refusal>
-        ensures number { number_of result ≡ alignment_refusal (length bits.now) width height version.0 }
-        ensures view { IfOk result (λ v. (v.bits.now ≡ bits.now) × (v.width ≡ width) × (v.height ≡ height) × (v.version ≡ version) × (v.transform ≡ transform)) }
+        ensures number { let p = bits.entry in number_of result ≡ alignment_refusal (length p.bits.now) p.width p.height version.0 }
+        ensures view { let p = bits.entry in IfOk result (λ v. (v.picture.bits.now ≡ p.bits.now) × (v.picture.width ≡ p.width) × (v.picture.height ≡ p.height) × (v.version ≡ version) × (v.transform ≡ transform)) }
     {
-        check_bits(bits.len(), width, height)?;
+        let picture = bits.checked()?;
         Version::new(version.0)?;
         Ok(View {
-            bits,
-            width: width as u16,
-            height: height as u16,
+            picture,
             version,
             transform,
         })
@@ -119,29 +112,22 @@ impl<'a> View<'a> {
 
     // The pixel at p, 1 for dark.
     fn pixel_at(&self, p: Point) -> u8
-        ensures value { let s = self.now in result ≡ pixel_at s.bits.now s.width s.height p }
+        ensures value { let s = self.now in result ≡ pixel_at s.picture.bits.now s.picture.width s.picture.height p }
         ensures upper_bound { result ≤ 1 }
     {
-        let is_dark = dark(
-            self.bits,
-            self.width as u32,
-            self.height as u32,
-            to_u32(p.x),
-            to_u32(p.y),
-        );
-        u8::from(is_dark)
+        u8::from(self.picture.dark(to_u32(p.x), to_u32(p.y)))
     }
 
     // One tap more, at p.
     fn tap(&self, p: Point, v: Votes) -> Votes
         requires { (v.seen ≤ 4) × (v.dark ≤ v.seen) }
-        ensures value { let s = self.now in result ≡ tapped s.bits.now s.width s.height v p }
+        ensures value { let s = self.now in result ≡ tapped s.picture.bits.now s.picture.width s.picture.height v p }
         ensures counted { Counted v result }
     {
-        if outside(p.x, self.width) {
+        if outside(p.x, self.picture.width) {
             return v;
         }
-        if outside(p.y, self.height) {
+        if outside(p.y, self.picture.height) {
             return v;
         }
         Votes {
@@ -154,7 +140,7 @@ impl<'a> View<'a> {
     fn majority<F: Fn(f32, f32) -> Point>(&self, place: F, x: f32, y: f32) -> bool
         requires callable { F.IsAlwaysCallable place }
         requires places { (u v : _) (p : _) → F.post place u v p → p ≡ applied self.now.transform u v }
-        ensures { let s = self.now in result ≡ module_dark s.bits.now s.width s.height s.transform x y }
+        ensures { let s = self.now in result ≡ module_dark s.picture.bits.now s.picture.width s.picture.height s.transform x y }
     {
         let none = Votes { seen: 0, dark: 0 };
         let a = self.tap(place(x + 0.0, y + 0.0), none);
@@ -173,7 +159,7 @@ impl<'a> View<'a> {
 
     // Whether the module at (x, y) is dark. Without a lens, as in every detection, the places are found by the faster way.
     pub fn is_dark(&self, x: f32, y: f32) -> bool
-        ensures { let s = self.now in result ≡ module_dark s.bits.now s.width s.height s.transform x y }
+        ensures { let s = self.now in result ≡ module_dark s.picture.bits.now s.picture.width s.picture.height s.transform x y }
     {
         if self.transform.strength == 0.0 {
             return self.majority(|u, v| self.transform.place(u, v), x, y);
@@ -183,8 +169,8 @@ impl<'a> View<'a> {
 
     // The better of the best site so far and the site at offset (x, y) from the centre (c, c).
     fn visit(&self, c: f32, x: f32, y: f32, best: Site, colours: &[u8], at: u16) -> Site
-        requires { let s = self.now in KnownAt s.bits.now s.width s.height s.transform (plus32 c x) (plus32 c y) colours.now at }
-        ensures { let s = self.now in result ≡ better_of best (site_at s.bits.now s.width s.height s.transform c x y) }
+        requires { let s = self.now in KnownAt s.picture.bits.now s.picture.width s.picture.height s.transform (plus32 c x) (plus32 c y) colours.now at }
+        ensures { let s = self.now in result ≡ better_of best (site_at s.picture.bits.now s.picture.width s.picture.height s.transform c x y) }
     {
         let modules = Modules {
             view: *self,
@@ -204,8 +190,8 @@ impl<'a> View<'a> {
 
     // m × m sites, `step` apart, about the best so far, with a table of their modules' colours or an empty one.
     pub fn sweep(&self, c: f32, m: u8, step: f32, best: Site, colours: &[u8]) -> Site
-        requires { let s = self.now in (0 < m) × (m ≤ 13) × Known s.bits.now s.width s.height s.transform c m step best colours.now }
-        ensures { let s = self.now in result ≡ sweep_best s.bits.now s.width s.height s.transform c m step best }
+        requires { let s = self.now in (0 < m) × (m ≤ 13) × Known s.picture.bits.now s.picture.width s.picture.height s.transform c m step best colours.now }
+        ensures { let s = self.now in result ≡ sweep_best s.picture.bits.now s.picture.width s.picture.height s.transform c m step best }
     {
         let mut nearest = best;
         for k in 0..m * m {
@@ -226,14 +212,14 @@ struct Modules<'a, 'b> {
     y: f32,
     colours: &'b [u8],
     at: u16,
-    ghost known: { KnownAt view.bits.now view.width view.height view.transform x y colours.now at },
+    ghost known: { KnownAt view.picture.bits.now view.picture.width view.picture.height view.transform x y colours.now at },
 }
 
 impl<'a, 'b> Modules<'a, 'b> {
     // Whether the module in column i and row j is dark.
     fn sees_dark(&self, i: u8, j: u8) -> bool
         requires { (i < 5) × (j < 5) }
-        ensures { let s = self.now in let v = s.view in result ≡ module_dark v.bits.now v.width v.height v.transform (plus32 s.x (less i 2)) (plus32 s.y (less j 2)) }
+        ensures { let s = self.now in let v = s.view in result ≡ module_dark v.picture.bits.now v.picture.width v.picture.height v.transform (plus32 s.x (less i 2)) (plus32 s.y (less j 2)) }
     {
         if self.colours.is_empty() {
             let x = self.x + offset(i, 2);
@@ -246,7 +232,7 @@ impl<'a, 'b> Modules<'a, 'b> {
     // 1 where module k has its colour.
     fn agrees(&self, k: u8) -> u8
         requires { k < 25 }
-        ensures value { let s = self.now in let v = s.view in result ≡ agree v.bits.now v.width v.height v.transform s.x s.y k }
+        ensures value { let s = self.now in let v = s.view in result ≡ agree v.picture.bits.now v.picture.width v.picture.height v.transform s.x s.y k }
         ensures upper_bound { result ≤ 1 }
     {
         let i = k % 5;
@@ -256,7 +242,7 @@ impl<'a, 'b> Modules<'a, 'b> {
 
     // How many of them have their colour. It stops where `least` is out of reach.
     fn score(&self, least: u16) -> u8
-        ensures { let s = self.now in let v = s.view in UpTo least (score_of v.bits.now v.width v.height v.transform s.x s.y) result }
+        ensures { let s = self.now in let v = s.view in UpTo least (score_of v.picture.bits.now v.picture.width v.picture.height v.transform s.x s.y) result }
     {
         let mut n: u8 = 0;
         for k in 0..25 {

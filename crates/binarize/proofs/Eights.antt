@@ -12,11 +12,12 @@ use lib.Pow.{high, low}
 use Rattle.lists.proofs.Tabulate.{filled_step}
 use Rattle.std.specs.Int.{from_bool}
 use Rattle.binary.specs.Binary.{bit, word, byte_of}
-use Rattle.binary.specs.Writing.{Written}
-use Rattle.binary.proofs.Bits.{word_bound, word_low}
+use Rattle.binary.specs.Writing.{rest_after, bytes_after, Written}
+use Rattle.binary.proofs.Bits.{word_bound, word_low, written_step}
 use Rattle.binary.proofs.Words.{word-append, word_same}
 use Rattle.blocks.specs.Blocks.{at}
-use Rattle.binarize.specs.Splits.{byte_of_eight, rest_of_eight}
+use Rattle.binarize.specs.declared.rows.Writer.{Writer}
+use Rattle.binarize.specs.Splits.{Puts, byte_of_eight, rest_of_eight}
 
 -- a test as a number
 pub from_is : (b : Bool) → from_bool b ≡ bit b
@@ -55,6 +56,19 @@ written-eight p n old l l' acc acc' b room r s q w =
       bytes = s ∙ rw up (filled_step (n / 8) (byte_of p) old l _ room w.bytes (byte_of_eight_lem p n acc b w.rest q));
       rest = r ∙ rw (up, same, next) (rest_of_eight_lem p n acc b w.rest q);
     }
+
+-- one pixel more
+pub puts_one : (a n b : ℕ) (old w w' : Writer) (A B : (ℕ → Bool) → Type 0) → n / 8 < length old.bits.now → w'.bits.ghost_name ≡ w.bits.ghost_name → length w'.bits.now ≡ length w.bits.now
+    → w'.pending ≡ rest_after n w.pending b → w'.bits.now ≡ bytes_after n w.pending b w.bits.now → ((p : ℕ → Bool) → B p → (b ≡ bit (p n)) × A p)
+    → Puts a n old w A → Puts a (n + 1) old w' B
+puts_one a n b old w w' A B room same long r s agree so = record {
+  same = same ∙ so.same;
+  long = long ∙ so.long;
+  written = λ p first l o g.
+      let h = agree p g in
+      let q : n / 8 < length first = omega (arith, l) in
+      written_step p n first _ _ _ _ b q r s h.0 (so.written p first l o h.1);
+}
 
 -- eight pixels of a row, from column 8 j on, have the level of block j
 pub same_eight : (p : ℕ → Bool) (g levels : List ℕ) (from w j : ℕ) → ((x : ℕ) → x < w → p (from + x) ≡ ltb (at g (from + x)) (at levels (x / 8))) → j < w / 8

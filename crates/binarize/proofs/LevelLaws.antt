@@ -142,3 +142,6 @@ module _ (means edges nears : List ℕ) (bw bh x y global : ℕ) where
 
   pub from_missed : (k : ℕ) → k < 4 → kind_level k ≡ None → from k ≡ from (k + 1)
   from_missed k h e = next k h ∙ ap (λ (l : Option ℕ). unwrap_or l (from (k + 1))) e
+
+-- what the search for the first window goes by
+pub ruleset kind_steps = (from_first, from_last, from_missed)

@@ -5,6 +5,7 @@ use Rattle.binary.specs.Binary.{bytes_of}
 use Rattle.binary.specs.Writing.{Written}
 use Rattle.blocks.specs.declared.rect.Rect.{Rect}
 use Rattle.blocks.specs.Blocks.{sum, blocks_refusal}
+use Rattle.binarize.specs.declared.rows.Writer.{Writer}
 use Rattle.binarize.specs.declared.split.Split.{Split}
 use Rattle.binarize.specs.Levels.{level}
 
@@ -64,9 +65,11 @@ pub record InGrid (len w : ℕ) (r : Rect) : Type 0 where
   pub all : r.bottom * w ≤ len
   pub few : r.bottom * w ≤ 262144
 
--- the pixels from number a on below b are put, where `old` bytes and `rest` bits stood: what results is written in order of each picture p that agrees
-abbrev pub Puts : ℕ → ℕ → List ℕ → ℕ → List ℕ → ℕ → ((ℕ → Bool) → Type 0) → Type 0
-Puts a b old rest new left Agrees = (p : ℕ → Bool) (first : List ℕ) → length first ≡ length old → Written p a first old rest → Agrees p → Written p b first new left
+-- the pixels from number a on below b are put: what is written in order of each picture p that agrees goes on
+pub record Puts (a b : ℕ) (old new : Writer) (Agrees : (ℕ → Bool) → Type 0) : Type 0 where
+  pub same : new.bits.ghost_name ≡ old.bits.ghost_name
+  pub long : length new.bits.now ≡ length old.bits.now
+  pub written : (p : ℕ → Bool) (first : List ℕ) → length first ≡ length old.bits.now → Written p a first old.bits.now old.pending → Agrees p → Written p b first new.bits.now new.pending
 
 -- eight pixels b after n, of which the last n mod 8 stand in acc: the byte that is complete, and the bits that are left
 abbrev pub byte_of_eight : ℕ → ℕ → ℕ → ℕ

@@ -11,6 +11,7 @@ use super::levels::block_level;
 use blocks::rect::Rect;
 
 // 1 where a block is marked, otherwise the flag as it was.
+#[tactic(auto, unfolding(crate::specs::Flags::flagged))]
 fn flag_with(mark: u8, flag: u8) -> u8
     ensures { result ≡ flagged mark flag }
 {
@@ -18,6 +19,7 @@ fn flag_with(mark: u8, flag: u8) -> u8
 }
 
 // Flags the columns that are marked in the row that begins at number `from`.
+#[tactic(auto, using(lists::proofs::Tabulate::filled_none, lists::proofs::Tabulate::filled_step, crate::proofs::FlagLaws::filled_rest))]
 fn flag_row(marks: &[u8], from: usize, w: usize, flags: &mut [u8])
     requires { (from + w ≤ length marks.now) × (w ≤ length flags.old) }
     ensures { flags.new ≡ filled w (λ x. flagged (at marks.now (from + x)) (at flags.old x)) flags.old }
@@ -28,6 +30,7 @@ fn flag_row(marks: &[u8], from: usize, w: usize, flags: &mut [u8])
 }
 
 // Flags the columns that have an edge mark or a near mark in the rows `top` to `bottom`.
+#[tactic(auto, using(crate::proofs::FlagLaws::flags_none))]
 pub fn flag_columns(grid: Grid, top: usize, bottom: usize, flags: &mut [u8])
     requires { (top ≤ bottom) × (bottom ≤ grid.height) × (grid.width ≤ length flags.old) }
     ensures { let g = grid.entry in Flagged (at g.edges.now) (at g.nears.now) g.width top bottom flags.new }

@@ -1,61 +1,69 @@
 // Levels of windows of blocks.
 ghost use Rattle.std.specs.Prelude.{◌≡◌, ◌==◌, cond, ◌+◌, ◌-◌, ◌*◌, ◌≤◌, ◌<◌, length, ltb};
 ghost use Rattle.std.specs.List.{list_any};
-ghost use Rattle.lists.specs.Lists.{range, folded};
+ghost use Rattle.lists.specs.Lists.{folded};
 ghost use Rattle.blocks.specs.Blocks.{at, cells, about};
 ghost use Rattle.blocks.specs.Rects.{cells_of};
 ghost use Rattle.binarize.specs.Levels.{marked_means, any_marked, window_level, global_level};
-ghost use Rattle.binarize.specs.Splits.{level_of, block_step, column_step, no_block, tally_of, InGrid};
+ghost use Rattle.binarize.specs.Splits.{level_of, block_step, row_step, no_block, tally_of, InGrid};
 
 use super::grid::Grid;
 use super::split::Split;
 use blocks::rect::Rect;
 
-// Columns a to b of the row that begins at number `from`.
-fn row_split(
-    means: &[u8],
-    marks: &[u8],
-    from: usize,
-    a: usize,
-    b: usize,
-    bound: u8,
-    t: Split,
-) -> Split
-    requires { (a ≤ b) × (from + b ≤ length means.now) × (from + b ≤ length marks.now) × (t.lows + t.highs + (b - a) ≤ 8388607) }
-    ensures counted { tally_of result ≡ folded (column_step (at means.now) (at marks.now) bound from) (tally_of t) (range a b) }
-    ensures few { result.lows + result.highs ≤ t.lows + t.highs + (b - a) }
-{
-    let mut r = t;
-    for x in a..b {
-        r = r.with_block(means[from + x], marks[from + x], bound);
-    }
-    r
+// The means and one kind of marks of blocks, in rows of `width` blocks.
+#[derive(Clone, Copy)]
+struct Marked<'a> {
+    means: &'a [u8],
+    marks: &'a [u8],
+    width: usize,
 }
 
-// The blocks in a window, where a row has w blocks.
-fn window_split(means: &[u8], marks: &[u8], w: usize, window: Rect, bound: u8) -> Split
-    requires { InGrid (length means.now) w window × InGrid (length marks.now) w window }
-    ensures { tally_of result ≡ folded (block_step (at means.now) (at marks.now) bound) no_block (cells_of w window) }
-{
-    let mut t = Split::new();
-    for y in window.top..window.bottom {
-        t = row_split(means, marks, y * w, window.left, window.right, bound, t);
+impl Marked<'_> {
+    // The blocks of a window's row y beside those in t.
+    #[tactic(auto, using(lists::proofs::Folds::fold_more, lists::proofs::Folds::fold_end), unfolding(crate::specs::Splits::row_step, crate::specs::Splits::column_step, crate::specs::Splits::block_step))]
+    fn row_split(self, window: Rect, y: usize, bound: u8, t: Split) -> Split
+        requires { (y * self.width + window.right ≤ length self.means.now) × (y * self.width + window.right ≤ length self.marks.now)
+            × (t.lows + t.highs + (window.right - window.left) ≤ 8388607) }
+        ensures counted { let m = self.entry in
+            tally_of result ≡ row_step (at m.means.now) (at m.marks.now) bound m.width window.left window.right (tally_of t) y }
+        ensures few { result.lows + result.highs ≤ t.lows + t.highs + (window.right - window.left) }
+    {
+        let from = y * self.width;
+        let mut r = t;
+        for x in window.left..window.right {
+            r = r.with_block(self.means[from + x], self.marks[from + x], bound);
+        }
+        r
     }
-    t
-}
 
-// The level of a window, where it holds a marked block.
-fn level_in(means: &[u8], marks: &[u8], w: usize, window: Rect) -> Option<u8>
-    requires { InGrid (length means.now) w window × InGrid (length marks.now) w window }
-    ensures { result ≡ level_of (marked_means (at means.now) (at marks.now) (cells_of w window)) }
-{
-    let all = window_split(means, marks, w, window, 0);
-    if all.lows + all.highs == 0 {
-        return None;
+    // The blocks in a window.
+    #[tactic(auto, using(lists::proofs::Folds::fold_more, lists::proofs::Numbers::next_row), unfolding(crate::specs::Splits::row_step))]
+    fn window_split(self, window: Rect, bound: u8) -> Split
+        requires { InGrid (length self.means.now) self.width window × InGrid (length self.marks.now) self.width window }
+        ensures { let m = self.entry in
+            tally_of result ≡ folded (block_step (at m.means.now) (at m.marks.now) bound) no_block (cells_of m.width window) }
+    {
+        let mut t = Split::new();
+        for y in window.top..window.bottom {
+            t = self.row_split(window, y, bound, t);
+        }
+        t
     }
-    let mean = all.mean();
-    let two = window_split(means, marks, w, window, mean);
-    Some(two.midpoint(mean))
+
+    // The level of a window, where it holds a marked block.
+    fn level_in(self, window: Rect) -> Option<u8>
+        requires { InGrid (length self.means.now) self.width window × InGrid (length self.marks.now) self.width window }
+        ensures { let m = self.entry in result ≡ level_of (marked_means (at m.means.now) (at m.marks.now) (cells_of m.width window)) }
+    {
+        let all = self.window_split(window, 0);
+        if all.lows + all.highs == 0 {
+            return None;
+        }
+        let mean = all.mean();
+        let two = self.window_split(window, mean);
+        Some(two.midpoint(mean))
+    }
 }
 
 // The level of the window of a radius about the block in column x and row y, by one kind of marks.
@@ -65,10 +73,15 @@ fn level_about(grid: Grid, marks: &[u8], x: usize, y: usize, radius: usize) -> O
         result ≡ level_of (marked_means (at g.means.now) (at marks.now) (cells g.width (about g.width x radius) (about g.height y radius))) }
 {
     let window = Rect::about(grid.width, grid.height, x, y, radius);
-    level_in(grid.means, marks, grid.width, window)
+    let marked = Marked {
+        means: grid.means,
+        marks,
+        width: grid.width,
+    };
+    marked.level_in(window)
 }
 
-// The marks of a kind of window: the first two kinds go by the edge marks, the others by the near marks.
+// The marks of a kind of window: the first two kinds go by the edge marks, the others by the near marks. Of two lent slices, as document 01 names it.
 fn marks_of<'a>(edges: &'a [u8], nears: &'a [u8], kind: usize) -> &'a [u8]
     ensures { result.now ≡ cond (ltb kind 2) edges.now nears.now }
 {
@@ -78,6 +91,7 @@ fn marks_of<'a>(edges: &'a [u8], nears: &'a [u8], kind: usize) -> &'a [u8]
 // The level of the block in column x and row y: the first of four windows that holds a marked block gives it, otherwise it is the global level.
 // The loop yields its level by `break`, the form that document 01 names.
 // It stays a call: most blocks need no window, and inlined its bounds are worked out for each of them, which takes 4 % more instructions where few are marked.
+#[tactic(auto, using(crate::proofs::LevelLaws::kind_steps))]
 #[inline(never)]
 pub fn block_level(grid: Grid, x: usize, y: usize, global: u8) -> u8
     requires { (x < grid.width) × (y < grid.height) }
@@ -103,7 +117,7 @@ fn any_mark(marks: &[u8]) -> bool
     marks.iter().any(|mark| *mark == 1)
 }
 
-// The edge marks if any of n blocks has one, otherwise the near marks.
+// The edge marks if any of n blocks has one, otherwise the near marks. Of two lent slices too.
 fn chosen<'a>(edges: &'a [u8], nears: &'a [u8], n: usize) -> &'a [u8]
     requires { n ≤ length edges.now }
     ensures { result.now ≡ cond (any_marked (at edges.now) n) edges.now nears.now }
@@ -112,6 +126,7 @@ fn chosen<'a>(edges: &'a [u8], nears: &'a [u8], n: usize) -> &'a [u8]
 }
 
 // The level over all blocks of the picture, 0 where none is marked.
+#[tactic(auto, using(crate::proofs::LevelLaws::global_is))]
 pub fn global_level(grid: Grid) -> u8
     ensures { let g = grid.entry in result ≡ global_level (at g.means.now) (at g.edges.now) (at g.nears.now) g.width g.height }
 {
@@ -123,5 +138,10 @@ pub fn global_level(grid: Grid) -> u8
         top: 0,
         bottom: 1,
     };
-    level_in(grid.means, marks, n, all).unwrap_or(0)
+    let marked = Marked {
+        means: grid.means,
+        marks,
+        width: n,
+    };
+    marked.level_in(all).unwrap_or(0)
 }

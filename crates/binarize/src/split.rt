@@ -29,6 +29,7 @@ impl Split {
     }
 
     // One block more, which counts if it is marked: by products with 0 or 1, since no branch could be foretold.
+    #[tactic(auto, using(crate::proofs::Products::counted_is))]
     pub fn with_block(self, v: u8, mark: u8, bound: u8) -> Self
         requires { self.lows + self.highs < 8388607 }
         ensures counted { tally_of result ≡ with_block bound (tally_of self) v mark }
@@ -54,6 +55,7 @@ impl Split {
     }
 
     // Half the sum of the two groups' means, or the mean of all where a group is empty.
+    #[tactic(auto, using(lists::proofs::Numbers::mean_small))]
     pub fn midpoint(self, mean: u8) -> u8
         ensures { result ≡ cond (eqb self.lows 0 || eqb self.highs 0) mean ((self.low / self.lows + self.high / self.highs) / 2) }
     {

@@ -1,14 +1,27 @@
 -- The marks that are made from the written values are those of the picture. Assumes nothing.
-use mathlib.Core.Path.{◌≡◌, ap, ap₂, ◌∙◌}
+use mathlib.Core.Bool.{Bool, true, false, cond}
+use mathlib.Core.Path.{◌≡◌, refl, ap, ap₂, ◌∙◌}
 use mathlib.Core.List.{List, map}
 use Prim.Native.Nat.{ℕ, ◌+◌, ◌-◌, ◌*◌, ◌/◌, ◌%◌, ◌<◌, min}
 use native.Mathlib.Omega.{arith}
+use lib.Dec.{ltb}
+use borrow.Author.Tests.{lt-ltb, le-ltb, ltb-true, ltb-false}
+use Rattle.std.specs.Int.{from_bool}
 use Rattle.lists.specs.Lists.{filled}
 use Rattle.lists.proofs.Tabulate.{filled_same, get_or-filled}
 use Rattle.lists.proofs.Filters.{each_map}
 use Rattle.lists.proofs.Folds.{map_same}
 use Rattle.blocks.specs.Blocks.{least, greatest, at, blocks_on, blocks_in, neighbours, mark, edge_of, near_of, least_at, greatest_at, edge_at, near_at}
 use Rattle.blocks.proofs.Grids.{place, cells-within}
+
+-- the greatest value exceeds the least and 24 where the spread exceeds 24
+pub made : (lo hi : ℕ) → from_bool (ltb (lo + 24) hi) ≡ mark lo hi
+unfolding mark
+made lo hi = go (ltb (lo + 24) hi) refl
+  where
+    go : (t : Bool) → ltb (lo + 24) hi ≡ t → from_bool t ≡ cond (ltb 24 (hi - lo)) 1 0
+    go true e = simp (lt-ltb 24 (hi - lo) (omega (arith, ltb-true _ _ e)))
+    go false e = simp (le-ltb 24 (hi - lo) (omega (arith, ltb-false _ _ e)))
 
 -- what was written at number k
 pub at-filled : (n : ℕ) (f : ℕ → ℕ) (l d : List ℕ) → l ≡ filled n f d → (k : ℕ) → k < n → at l k ≡ f k

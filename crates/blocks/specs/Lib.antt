@@ -1,3 +1,4 @@
 pub mod Blocks
 pub mod Rects
 pub mod Steps
+pub mod Work

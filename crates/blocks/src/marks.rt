@@ -10,16 +10,14 @@ use super::stats::rect_stats;
 const MIN_DYNAMIC_RANGE: u32 = 24;
 
 // 1 where the spread exceeds it.
+#[tactic(auto, using(crate::proofs::Marking::made))]
 fn mark(least: u8, greatest: u8) -> u8
     ensures { result ≡ mark_of least greatest }
 {
-    if least as u32 + MIN_DYNAMIC_RANGE < greatest as u32 {
-        1
-    } else {
-        0
-    }
+    u8::from(least as u32 + MIN_DYNAMIC_RANGE < greatest as u32)
 }
 
+#[tactic(auto, using(lists::proofs::Tabulate::filled_none, lists::proofs::Tabulate::filled_step))]
 pub fn edge_marks(least: &[u8], greatest: &[u8], n: usize, edges: &mut [u8])
     requires { (n ≤ length least.now) × (n ≤ length greatest.now) × (n ≤ length edges.old) }
     ensures { edges.new ≡ filled n (edge_of (at least.now) (at greatest.now)) edges.old }
@@ -40,6 +38,7 @@ fn near_mark(least: &[u8], greatest: &[u8], bw: usize, bh: usize, i: usize) -> u
     mark(low.least, high.greatest)
 }
 
+#[tactic(auto, using(lists::proofs::Tabulate::filled_none, lists::proofs::Tabulate::filled_step))]
 pub fn near_marks(least: &[u8], greatest: &[u8], bw: usize, bh: usize, nears: &mut [u8])
     requires { (bw ≤ 512) × (bh ≤ 512) × (bh * bw ≤ length least.now) × (bh * bw ≤ length greatest.now) × (bh * bw ≤ length nears.old) }
     ensures { nears.new ≡ filled (bh * bw) (near_of (at least.now) (at greatest.now) bw bh) nears.old }

@@ -2,9 +2,6 @@
 ghost use Rattle.std.specs.Prelude.{◌≡◌, ◌*◌, ◌≤◌, ◌<◌, length};
 ghost use Rattle.lcr_core.specs.Passed.{Sides};
 ghost use Rattle.blocks.specs.Blocks.{blocks_on, blocks_in};
-ghost use Rattle.blocks.specs.Rects.{IsBlock};
-
-use super::rect::Rect;
 
 // How many blocks there are along a side: the last one is cut.
 pub fn blocks_on(side: usize) -> usize
@@ -13,9 +10,17 @@ pub fn blocks_on(side: usize) -> usize
     side.div_ceil(8)
 }
 
+// Gray values that are lent as a picture of width × height pixels, row by row, whether they are one or not.
+#[derive(Clone, Copy)]
+pub struct LentGray<'a> {
+    pub gray: &'a [u8],
+    pub width: u32,
+    pub height: u32,
+}
+
 // The gray values of width × height pixels, row by row.
 #[derive(Clone, Copy)]
-pub struct Picture<'a> {
+pub struct GrayPicture<'a> {
     pub gray: &'a [u8],
     pub width: usize,
     pub height: usize,
@@ -23,7 +28,7 @@ pub struct Picture<'a> {
     pub ghost bytes: { width * height ≤ length gray.now },
 }
 
-impl Picture<'_> {
+impl GrayPicture<'_> {
     // How many blocks there are in a row of blocks.
     pub fn columns(self) -> usize
         ensures { result ≡ blocks_on self.entry.width }
@@ -36,20 +41,5 @@ impl Picture<'_> {
         ensures { result ≡ blocks_on self.entry.height }
     {
         blocks_on(self.height)
-    }
-
-    // The pixels of block number i.
-    pub fn block(self, i: usize) -> Rect
-        requires { i < blocks_in self.width self.height }
-        ensures { IsBlock self.entry.width self.entry.height i result }
-    {
-        let left = i % self.columns() * 8;
-        let top = i / self.columns() * 8;
-        Rect {
-            left,
-            right: self.width.min(left + 8),
-            top,
-            bottom: self.height.min(top + 8),
-        }
     }
 }

@@ -15,16 +15,15 @@ pub struct Rect {
 impl Rect {
     ghost use Rattle.blocks.specs.Rects.{IsAbout};
 
-    // The window of a radius about column x and row y of a grid, cut at its edges.
+    // The window of a radius about column x and row y of a grid, cut at its edges; about a place outside, what of it lies in the grid.
     pub fn about(width: usize, height: usize, x: usize, y: usize, radius: usize) -> Self
-        requires { (width ≤ 512) × (height ≤ 512) × (x < width) × (y < height) × (radius ≤ 512) }
-        ensures { IsAbout width height x y radius result }
+        ensures { (x < width) × (y < height) → IsAbout width height x y radius result }
     {
         Rect {
-            left: x.saturating_sub(radius),
-            right: width.min(x + radius + 1),
-            top: y.saturating_sub(radius),
-            bottom: height.min(y + radius + 1),
+            left: width.min(x.saturating_sub(radius)),
+            right: width.min(x.saturating_add(radius).saturating_add(1)),
+            top: height.min(y.saturating_sub(radius)),
+            bottom: height.min(y.saturating_add(radius).saturating_add(1)),
         }
     }
 }

@@ -2,10 +2,10 @@
 ghost use Rattle.std.specs.Prelude.{◌≡◌, ◌+◌, ◌-◌, ◌*◌, ◌≤◌, ◌<◌, length};
 ghost use Rattle.lists.specs.Lists.{range, folded, filled};
 ghost use Rattle.blocks.specs.Blocks.{blocks_in, mean_at, least_at, greatest_at};
-ghost use Rattle.blocks.specs.Rects.{cells_of, InRect};
+ghost use Rattle.blocks.specs.Rects.{cells_of, InRect, IsBlock};
 ghost use Rattle.blocks.specs.Steps.{with_value, cell_step, column_step, no_value};
 
-use super::picture::Picture;
+use super::picture::GrayPicture;
 use super::rect::Rect;
 
 #[derive(Clone, Copy)]
@@ -28,6 +28,7 @@ fn with_value(t: Stats, v: u8) -> Stats
 }
 
 // Columns a to b of the row that begins at number `from`.
+#[tactic(auto, using(lists::proofs::Folds::fold_more, lists::proofs::Folds::fold_end), unfolding(crate::specs::Steps::column_step, crate::specs::Steps::cell_step))]
 fn row_stats(s: &[u8], from: usize, a: usize, b: usize, t: Stats) -> Stats
     requires { (a ≤ b) × (from + b ≤ length s.now) × (t.sum + 255 * (b - a) ≤ 65280) }
     ensures { (result ≡ folded (column_step s.now from) t (range a b)) × (result.sum ≤ t.sum + 255 * (b - a)) }
@@ -40,6 +41,7 @@ fn row_stats(s: &[u8], from: usize, a: usize, b: usize, t: Stats) -> Stats
 }
 
 // The values in a rectangle of rows of w values.
+#[tactic(auto, using(lists::proofs::Folds::fold_more, lists::proofs::Numbers::next_row), unfolding(crate::specs::Steps::row_step))]
 pub fn rect_stats(s: &[u8], w: usize, rect: Rect) -> Stats
     requires { InRect (length s.now) w rect }
     ensures { (result ≡ folded (cell_step s.now) no_value (cells_of w rect)) × (result.sum ≤ 255 * ((rect.bottom - rect.top) * (rect.right - rect.left))) }
@@ -55,6 +57,23 @@ pub fn rect_stats(s: &[u8], w: usize, rect: Rect) -> Stats
     t
 }
 
+impl GrayPicture<'_> {
+    // The pixels of block number i.
+    fn block(self, i: usize) -> Rect
+        requires { i < blocks_in self.width self.height }
+        ensures { IsBlock self.entry.width self.entry.height i result }
+    {
+        let left = i % self.columns() * 8;
+        let top = i / self.columns() * 8;
+        Rect {
+            left,
+            right: self.width.min(left + 8),
+            top,
+            bottom: self.height.min(top + 8),
+        }
+    }
+}
+
 // The mean, the least and the greatest value of a block.
 #[derive(Clone, Copy)]
 pub struct Values {
@@ -64,7 +83,8 @@ pub struct Values {
 }
 
 // Those of block number i.
-fn values_of(picture: Picture, i: usize) -> Values
+#[tactic(auto, using(lists::proofs::Numbers::mean_small))]
+fn values_of(picture: GrayPicture, i: usize) -> Values
     requires { i < blocks_in picture.width picture.height }
     ensures { let p = picture.entry in (result.mean ≡ mean_at p.gray.now p.width p.height i) × (result.least ≡ least_at p.gray.now p.width p.height i)
         × (result.greatest ≡ greatest_at p.gray.now p.width p.height i) }
@@ -79,8 +99,9 @@ fn values_of(picture: Picture, i: usize) -> Values
     }
 }
 
-// Those of every block.
-pub fn all_values(picture: Picture, means: &mut [u8], least: &mut [u8], greatest: &mut [u8])
+// Those of every block. Three slices here, and two and one for the marks, in place of `Blocks`: over that each clause would also say which other fields stay.
+#[tactic(auto, using(lists::proofs::Tabulate::filled_none, lists::proofs::Tabulate::filled_step))]
+pub fn all_values(picture: GrayPicture, means: &mut [u8], least: &mut [u8], greatest: &mut [u8])
     requires { let n = blocks_in picture.width picture.height in (n ≤ length means.old) × (n ≤ length least.old) × (n ≤ length greatest.old) }
     ensures means_after { let p = picture.entry in means.new ≡ filled (blocks_in p.width p.height) (mean_at p.gray.now p.width p.height) means.old }
     ensures least_after { let p = picture.entry in least.new ≡ filled (blocks_in p.width p.height) (least_at p.gray.now p.width p.height) least.old }

@@ -3,9 +3,8 @@ use mathlib.Core.Path.{◌≡◌, refl, sym, ◌∙◌, ap}
 use mathlib.Core.Bool.{Bool, true, false, cond}
 use mathlib.Core.List.{List, [], ◌∷◌}
 use Prim.Native.Nat.{ℕ}
-use native.Mathlib.Omega.{arith}
-use lib.ListN.{length, get_or}
-use Rattle.std.specs.Prelude.{Option, Some, None, Result, Ok, Err, IsErrAnd}
+use lib.ListN.{length, take}
+use Rattle.std.specs.Prelude.{slice_get, Option, Result, Ok, Err, IsErrAnd}
 use Rattle.lcr_core.specs.Answer.{checked}
 use Rattle.lcr_core.specs.Outcome.{Check, number_of}
 use Rattle.lcr_core.specs.declared.Refusal.{Refusal}
@@ -18,6 +17,8 @@ use Rattle.finders.specs.Search.{found}
 use Rattle.finders.proofs.Outcomes.{answer_table, answer_refusal}
 use Rattle.ranking.specs.declared.Eight.{Eight}
 use Rattle.ranking.specs.Ranking.{in_use, eight_of}
+use Rattle.lists.proofs.Padded.{take-padded}
+use Rattle.candidates.specs.Detection.{zero_detection}
 use Rattle.candidates.specs.declared.Detection.{Detection}
 use Rattle.candidates.specs.declared.Detections.{Detections}
 use Rattle.candidates.specs.Candidates.{detections_of, table_of, table_in, first, from_answer, detect_answer, detect_first}
@@ -77,14 +78,14 @@ module _ (bits : List ℕ) (w h : ℕ) where
       let x = checked_passed checks table n in
       (n, cc (e, x))
 
-  first_is : (ds : List Detection) (t : Detections) → t ≡ table_of ds → (d : Detection) → (t.count ≡ 0 → None ≡ first ds) × ((t.count ≡ 0 → ⊥) → Some (get_or t.at 0 d) ≡ first ds)
-  first_is [] t e d = ((λ z. refl), (λ z. absurd (z (ap (λ (t : Detections). t.count) e))))
-  first_is (x ∷ ds) t e d = ((λ z. absurd (omega (arith, z, ap (λ (t : Detections). t.count) e))), (λ z. rw e refl))
+  first_is : (ds : List Detection) → slice_get ds 0 ≡ first ds
+  first_is [] = refl
+  first_is (x ∷ ds) = refl
 
-  pub first_none : (t : Detections) (d : Detection) → Ok t ≡ detect_answer bits w h → t.count ≡ 0 → Ok None ≡ detect_first bits w h
+  pub first_found : (t : Detections) → Ok t ≡ detect_answer bits w h → (ds : List Detection) → ds ≡ take t.count t.at → (r : Option Detection) → r ≡ slice_get ds 0 → Ok r ≡ detect_first bits w h
   unfolding detect_first find_refusal
-  first_none t d e z = let a = answered t e in ap Ok ((first_is _ t a.1 d).0 z) ∙ checked_passed checks one a.0
-
-  pub first_found : (t : Detections) (d : Detection) → Ok t ≡ detect_answer bits w h → (t.count ≡ 0 → ⊥) → Ok (Some (get_or t.at 0 d)) ≡ detect_first bits w h
-  unfolding detect_first find_refusal
-  first_found t d e z = let a = answered t e in ap Ok ((first_is _ t a.1 d).1 z) ∙ checked_passed checks one a.0
+  first_found t e ds q r g =
+      let a = answered t e in
+      let all = detections_of bits w h (finders_of bits w h) in
+      let k : ds ≡ all = q ∙ ap (λ (t : Detections). take t.count t.at) a.1 ∙ take-padded 3 zero_detection all in
+      ap Ok (g ∙ ap (λ (l : List Detection). slice_get l 0) k ∙ first_is all) ∙ checked_passed checks one a.0

@@ -8,19 +8,19 @@ use lib.ListN.{length, get_or, set, take, length-append, length-take}
 use lib.Seq.{get_or-take, take_all}
 use Rattle.lists.specs.Lists.{padded, flat_map}
 use Rattle.lists.proofs.Tabulate.{tabulate_ext}
-use Rattle.lists.proofs.Padded.{get_d_any, get_or-padded, get_or_table, padded_more}
+use Rattle.lists.proofs.Padded.{get_d_any, get_or_table, padded_more, take-padded}
 use Rattle.lists.proofs.Filters.{each_map}
 use Rattle.lists.proofs.Folds.{flat_map-take, flat_map_few, flat_map_same}
 use Rattle.geometry.specs.declared.Corners.{Corners}
 use Rattle.geometry.specs.declared.Finder.{Finder}
-use Rattle.geometry.specs.Order.{zero_finder, order_of}
+use Rattle.geometry.specs.Order.{zero_finder}
 use Rattle.finders.specs.declared.Finders.{Finders}
 use Rattle.finders.specs.Answer.{table_of as finders_table}
 use Rattle.ranking.specs.declared.Eight.{Eight}
 use Rattle.ranking.specs.declared.Ranked.{Ranked}
 use Rattle.ranking.specs.declared.Triple.{Triple}
-use Rattle.ranking.specs.Ranking.{finder_at, ranked, ranked_table, zero_triple, in_use, eight_of}
-use Rattle.ranking.proofs.Theorems.{Admissible, before, ranked_only, ranked-admissible, at_most_three}
+use Rattle.ranking.specs.Ranking.{ranked, ranked_table, zero_triple, in_use, eight_of}
+use Rattle.ranking.proofs.Theorems.{Admissible, before, ranked_only, ranked-admissible}
 use Rattle.ranking.proofs.Tables.{in_use_lem, ranked-eight}
 use Rattle.candidates.specs.declared.Detection.{Detection}
 use Rattle.candidates.specs.declared.Detections.{Detections}
@@ -37,79 +37,46 @@ pushed found d ds e l =
     let n : length ds + 1 ≡ length (ds ++ (d ∷ [])) = sym (length-append ds (d ∷ [])) in
     rw e (rw (q, n))
 
--- ---- a triple's finders, read from the table. d is what the code would read past an array's end
-module _ (t : Eight) (long : length t.at ≡ 8) (s : Triple) (h : Within (in_use t) s) where
-  pub eight-at : (s.i < 8) × (s.j < 8) × (s.k < 8)
-  eight-at = let l = length-take t.count t.at in (omega (arith, h.i_in), omega (arith, h.j_in), omega (arith, h.k_in))
-
-  in_use_at : (d : Finder) (i : ℕ) → i < length (in_use t) → get_or t.at i d ≡ finder_at (in_use t) i
-  in_use_at d i l =
-      let m = length-take t.count t.at in
-      get_d_any t.at i d zero_finder (omega arith) ∙ sym (get_or-take t.count t.at i zero_finder (omega arith))
-
-  pub corners_at_lem : (d : Finder) (r : Corners) → r ≡ order_of (get_or t.at s.i d) (get_or t.at s.j d) (get_or t.at s.k d) → r ≡ corners_of (in_use t) s
-  corners_at_lem d r e = e ∙ rw (in_use_at d s.i h.i_in, in_use_at d s.j h.j_in, in_use_at d s.k h.k_in)
-
--- ---- the ranked triples, one after the other
-module _ (fs : List Finder) where
-  abbrev at : ℕ → Triple
-  at p = get_or (ranked fs) p zero_triple
-
-  within : (p : ℕ) → p < length (ranked fs) → Within fs (at p)
-  unfolding Admissible
-  within p l = let h = ranked-admissible fs p l in record { i_in = omega arith; j_in = omega arith; k_in = omega arith }
-
+-- ---- triples ts, one after the other
+module _ (fs : List Finder) (ts : List Triple) where
   -- the detections of the first p of them
   abbrev pub first : List ℕ → ℕ → ℕ → ℕ → List Detection
-  first bits w h p = flat_map (detection_of bits w h fs) (take p (ranked fs))
-
-  pub none_yet : (bits : List ℕ) (w h : ℕ) (found : Detections) → found ≡ table_of [] → found ≡ table_of (first bits w h 0)
-  unfolding flat_map
-  none_yet bits w h found g = g
+  first bits w h p = flat_map (detection_of bits w h fs) (take p ts)
 
   pub first_few : (bits : List ℕ) (w h p : ℕ) (found : Detections) → found ≡ table_of (first bits w h p) → found.count ≤ p
   unfolding detection_of
-  first_few bits w h p found g = rw g (omega (arith, flat_map_few (detection_of bits w h fs) (λ s. kept_few (build_of bits w h (corners_of fs s) s.score)) (take p (ranked fs)), length-take p (ranked fs)))
+  first_few bits w h p found g = rw g (omega (arith, flat_map_few (detection_of bits w h fs) (λ s. kept_few (build_of bits w h (corners_of fs s) s.score)) (take p ts), length-take p ts))
 
-  -- what the code reads of the ranking r
-  module _ (r : Ranked) (e : r ≡ ranked_table (ranked fs)) where
-    pub ranked-count : r.count ≡ length (ranked fs)
+  -- what the triple at place p gives
+  module _ (bits : List ℕ) (w h : ℕ) (p : ℕ) (d : Triple) (l : p < length ts) (c : Corners) (ec : c ≡ corners_of fs (get_or ts p d)) (b : Option Detection) (eb : b ≡ build_of bits w h c (get_or ts p d).score) where
+    next_of : (found : List Detection) → found ≡ first bits w h p ++ kept b → found ≡ first bits w h (p + 1)
+    unfolding detection_of
+    next_of found g =
+        let q : kept b ≡ detection_of bits w h fs (get_or ts p d) = ap kept (eb ∙ ap (λ (x : Corners). build_of bits w h x (get_or ts p d).score) ec) in
+        g ∙ ap (λ (l : List Detection). first bits w h p ++ l) q ∙ sym (flat_map-take (detection_of bits w h fs) ts p d l)
+
+    pub one_more : (x : Detection) → b ≡ Some x → (found more : Detections) → found ≡ table_of (first bits w h p) → ((ds : List Detection) → found ≡ table_of ds → more ≡ table_of (ds ++ x ∷ [])) → more ≡ table_of (first bits w h (p + 1))
+    one_more x k found more g f = f (first bits w h p) g ∙ ap table_of (next_of _ (rw k refl))
+
+    pub none_more : b ≡ None → (found : Detections) → found ≡ table_of (first bits w h p) → found ≡ table_of (first bits w h (p + 1))
+    none_more k found g = g ∙ ap table_of (next_of _ (rw (k, append-nil) refl))
+
+  -- where they are those of a ranking of the same finders
+  module _ (gs : List Finder) (f : fs ≡ gs) (r : Ranked) (e : r ≡ ranked_table (ranked gs)) (q : ts ≡ take r.count r.at) where
+    all_ranked : ts ≡ ranked fs
     unfolding ranked_table
-    ranked-count = ap (λ (r : Ranked). r.count) e
+    all_ranked = q ∙ ap (λ (r : Ranked). take r.count r.at) e ∙ take-padded 3 zero_triple (ranked gs) ∙ ap ranked (sym f)
 
-    pub count_few : r.count ≤ 3
-    count_few = omega (arith, ranked-count, at_most_three fs)
-
-    pub place_is : (p : ℕ) (d : Triple) → p < r.count → get_or r.at p d ≡ at p
-    unfolding ranked_table
-    place_is p d l =
-        let m : p < length (ranked fs) = rw ranked-count at l in
-        ap (λ (r : Ranked). get_or r.at p d) e ∙ get_or-padded 3 zero_triple (ranked fs) p d zero_triple m
-
-    pub place-within : (p : ℕ) (d : Triple) → p < r.count → Within fs (get_or r.at p d)
+    pub place-within : (p : ℕ) (d : Triple) → p < length ts → Within fs (get_or ts p d)
+    unfolding Admissible
     place-within p d l =
-        let m : p < length (ranked fs) = rw ranked-count at l in
-        rw (place_is p d l) (within p m)
+        let h = ranked-admissible fs p (rw all_ranked at l) in
+        rw (get_d_any ts p d zero_triple l, all_ranked) (record { i_in = omega arith; j_in = omega arith; k_in = omega arith })
 
-    -- what the ranked triple at place p gives
-    module _ (bits : List ℕ) (w h : ℕ) (p : ℕ) (d : Triple) (l : p < r.count) (c : Corners) (ec : c ≡ corners_of fs (get_or r.at p d)) (b : Option Detection) (eb : b ≡ build_of bits w h c (get_or r.at p d).score) where
-      next_of : (found : List Detection) → found ≡ first bits w h p ++ kept b → found ≡ first bits w h (p + 1)
-      unfolding detection_of
-      next_of found g =
-          let m : p < length (ranked fs) = rw ranked-count at l in
-          let q : kept b ≡ detection_of bits w h fs (at p) = ap kept (eb ∙ ap (λ (x : Corners). build_of bits w h x (get_or r.at p d).score) ec ∙ ap (λ (t : Triple). build_of bits w h (corners_of fs t) t.score) (place_is p d l)) in
-          g ∙ ap (λ (l : List Detection). first bits w h p ++ l) q ∙ sym (flat_map-take (detection_of bits w h fs) (ranked fs) p zero_triple m)
-
-      pub one_more : (x : Detection) → b ≡ Some x → (found more : Detections) → found ≡ table_of (first bits w h p) → ((ds : List Detection) → found ≡ table_of ds → more ≡ table_of (ds ++ x ∷ [])) → more ≡ table_of (first bits w h (p + 1))
-      one_more x k found more g f = f (first bits w h p) g ∙ ap table_of (next_of _ (rw k refl))
-
-      pub none_more : b ≡ None → (found : Detections) → found ≡ table_of (first bits w h p) → found ≡ table_of (first bits w h (p + 1))
-      none_more k found g = g ∙ ap table_of (next_of _ (rw (k, append-nil) refl))
-
-    pub all_built : (bits : List ℕ) (w h : ℕ) (p : ℕ) (found : Detections) → p ≡ r.count → found ≡ table_of (first bits w h p) → found ≡ table_of (detections_of bits w h fs)
+    pub all_built : (bits : List ℕ) (w h : ℕ) (p : ℕ) (found : Detections) → length ts ≤ p → found ≡ table_of (first bits w h p) → found ≡ table_of (detections_of bits w h gs)
     unfolding detections_of
     all_built bits w h p found l g =
-        g ∙ ap (λ (l : List Triple). table_of (flat_map (detection_of bits w h fs) l)) (take_all p (ranked fs) (omega (arith, ranked-count)))
+        g ∙ ap (λ (l : List Triple). table_of (flat_map (detection_of bits w h fs) l)) (take_all p ts l ∙ all_ranked) ∙ ap (λ (fs : List Finder). table_of (detections_of bits w h fs)) f
 
 -- ---- the detections of a list are those of its first eight
 module _ (bits : List ℕ) (w h : ℕ) (fs : List Finder) where

@@ -1,7 +1,7 @@
 // The detections of a picture: of the ranked triples of its finders, those that can be built.
 #![tactic(auto)]
 
-ghost use Rattle.std.specs.Prelude.{◌≡◌, List, [], ◌∷◌, ◌++◌, ◌<◌};
+ghost use Rattle.std.specs.Prelude.{◌≡◌, List, [], ◌∷◌, ◌++◌, ◌<◌, ◌≤◌, length, take};
 ghost use Rattle.ranking.specs.Ranking.{in_use, eight_of};
 ghost use Rattle.finders.specs.Answer.{table_of as finders_table};
 ghost use Rattle.candidates.specs.Detection.{build_with, build_of, zero_detection};
@@ -9,7 +9,7 @@ ghost use Rattle.candidates.specs.Passing.{Within};
 ghost use Rattle.candidates.specs.Candidates.{corners_of, detections_of, table_of, from_answer, detect_answer, detect_first};
 
 use alignment::Refined;
-use binary::refusal::check_bits;
+use binary::picture::LentBits;
 use finders::Finders;
 use geometry::{Corners, Finder};
 use lcr_core::Refusal;
@@ -29,7 +29,7 @@ pub struct Detection {
     pub mean: f32,
 }
 
-// At most three detections; places from count on are zero.
+// At most three detections; places from count on are zero. An array and a count, since there is no heap.
 #[derive(Clone, Copy)]
 pub struct Detections {
     pub count: usize,
@@ -56,21 +56,14 @@ fn zero_detection() -> Detection
 }
 
 // The detection of three ordered finders with a triple's score for a version, or none.
-fn build_with(
-    bits: &[u8],
-    width: u32,
-    height: u32,
-    c: Corners,
-    score: f32,
-    v: Version,
-) -> Option<Detection>
-    ensures { result ≡ build_with bits.now width height c score v.0 }
+fn build_with(bits: LentBits<'_>, c: Corners, score: f32, v: Version) -> Option<Detection>
+    ensures { let p = bits.entry in result ≡ build_with p.bits.now p.width p.height c score v.0 }
 {
     let mean = geometry::score::mean_module(c.tl, c.tr, c.bl);
     // Predict the marker by the finders alone, then look for it there.
     let rough_build = geometry::build_transform(c, None, v);
     let rough = rough_build.unwrap_or(None)?;
-    let located = alignment::locate_alignment(bits, width, height, rough, v, mean);
+    let located = alignment::locate_alignment(bits, rough, v, mean);
     let marker = located.unwrap_or(None);
     let build = geometry::build_transform(c, marker, v);
     let transform = build.unwrap_or(None)?;
@@ -78,7 +71,7 @@ fn build_with(
         transform: Transform::zero(),
         marker: None,
     };
-    let refinement = alignment::refine_alignment(bits, width, height, c, v, transform, mean);
+    let refinement = alignment::refine_alignment(bits, c, v, transform, mean);
     let refined = refinement.unwrap_or(unrefined);
     Some(Detection {
         finders: c,
@@ -91,17 +84,11 @@ fn build_with(
 }
 
 // The detection of three ordered finders with a triple's score, or none.
-fn build_detection(
-    bits: &[u8],
-    width: u32,
-    height: u32,
-    c: Corners,
-    score: f32,
-) -> Option<Detection>
-    ensures { result ≡ build_of bits.now width height c score }
+fn build_detection(bits: LentBits<'_>, c: Corners, score: f32) -> Option<Detection>
+    ensures { let p = bits.entry in result ≡ build_of p.bits.now p.width p.height c score }
 {
     let v = geometry::estimate_version(c)?;
-    build_with(bits, width, height, c, score, v)
+    build_with(bits, c, score, v)
 }
 
 // The empty table.
@@ -116,6 +103,14 @@ pub fn no_detections() -> Detections
 }
 
 impl Detections {
+    // The detections, all places at most.
+    pub fn as_slice(&self) -> &[Detection]
+        ensures value { result.now ≡ take self.now.count self.now.at }
+        ensures most { length result.now ≤ 3 }
+    {
+        &self.at[..self.count.min(3)]
+    }
+
     // One more detection.
     fn push(&mut self, d: Detection)
         requires { self.old.count < 3 }
@@ -127,41 +122,37 @@ impl Detections {
 }
 
 // The finders at a triple's places, ordered.
-fn corners_at(t: Eight, s: Triple) -> Corners
-    requires { Within (in_use t) s }
-    ensures { result ≡ corners_of (in_use t) s }
+fn corners_at(fs: &[Finder], s: Triple) -> Corners
+    requires { Within fs.now s }
+    ensures { result ≡ corners_of fs.now s }
 {
-    let i = s.i;
-    let j = s.j;
-    let k = s.k;
-    geometry::order_finders(t.at[i], t.at[j], t.at[k])
+    geometry::order_finders(fs[s.i], fs[s.j], fs[s.k])
 }
 
 // The detections of the ranked triples, in rank order; those that can't be built are left out. Not inlined, so that its locals add nothing to the stack below
 // the search.
 #[inline(never)]
-fn built_triples(bits: &[u8], width: u32, height: u32, t: Eight) -> Detections
-    ensures { result ≡ table_of (detections_of bits.now width height (in_use t)) }
+fn built_triples(bits: LentBits<'_>, t: Eight) -> Detections
+    ensures { let p = bits.entry in result ≡ table_of (detections_of p.bits.now p.width p.height (in_use t)) }
 {
+    let fs = t.as_slice();
     let ranked = ranking::ranking(t);
-    let places = ranked.at;
     let mut found = no_detections();
-    for p in 0..ranked.count {
-        let s = places[p];
-        let c = corners_at(t, s);
-        if let Some(d) = build_detection(bits, width, height, c, s.score) {
+    for s in ranked.as_slice() {
+        let c = corners_at(fs, *s);
+        if let Some(d) = build_detection(bits, c, s.score) {
             found.push(d);
         }
     }
     found
 }
 
-// The detections of a table's finders in a picture of width × height pixels: refusals 1, 2, 4.
-pub fn candidates_in(bits: &[u8], width: u32, height: u32, t: Eight) -> Result<Detections, Refusal>
-    ensures { result ≡ from_answer bits.now width height (in_use t) }
+// The detections of a table's finders in a lent picture: refusals 1, 2, 4.
+pub fn candidates_in(bits: LentBits<'_>, t: Eight) -> Result<Detections, Refusal>
+    ensures { let p = bits.entry in result ≡ from_answer p.bits.now p.width p.height (in_use t) }
 {
-    check_bits(bits.len(), width, height)?;
-    Ok(built_triples(bits, width, height, t))
+    bits.checked()?;
+    Ok(built_triples(bits, t))
 }
 
 // The first eight finders of a search.
@@ -172,32 +163,24 @@ pub fn eight_in(t: Finders) -> Eight
 }
 
 // The detections of a picture: refusals 1, 2, 4, and 6 where it has too many finders.
-pub fn detect_candidates(bits: &[u8], width: u32, height: u32) -> Result<Detections, Refusal>
-    ensures { result ≡ detect_answer bits.now width height }
+pub fn detect_candidates(bits: LentBits<'_>) -> Result<Detections, Refusal>
+    ensures { let p = bits.entry in result ≡ detect_answer p.bits.now p.width p.height }
 {
-    let found = finders::find_finders(bits, width, height)?;
-    Ok(built_triples(bits, width, height, eight_in(found)))
+    let found = finders::find_finders(bits)?;
+    Ok(built_triples(bits, eight_in(found)))
 }
 
 // The first detection of a picture, if there is one.
-pub fn detect(bits: &[u8], width: u32, height: u32) -> Result<Option<Detection>, Refusal>
-    ensures { result ≡ detect_first bits.now width height }
+pub fn detect(bits: LentBits<'_>) -> Result<Option<Detection>, Refusal>
+    ensures { let p = bits.entry in result ≡ detect_first p.bits.now p.width p.height }
 {
-    let found = detect_candidates(bits, width, height)?;
-    if found.count == 0 {
-        return Ok(None);
-    }
-    Ok(Some(found.at[0]))
+    let found = detect_candidates(bits)?;
+    Ok(found.as_slice().first().copied())
 }
 
 // The detections of a lent list's finders, however many there are: refusals 1, 2, 4.
-pub fn candidates_from(
-    bits: &[u8],
-    width: u32,
-    height: u32,
-    fs: &[Finder],
-) -> Result<Detections, Refusal>
-    ensures { result ≡ from_answer bits.now width height fs.now }
+pub fn candidates_from(bits: LentBits<'_>, fs: &[Finder]) -> Result<Detections, Refusal>
+    ensures { let p = bits.entry in result ≡ from_answer p.bits.now p.width p.height fs.now }
 {
-    candidates_in(bits, width, height, lent::first_eight(fs))
+    candidates_in(bits, lent::first_eight(fs))
 }

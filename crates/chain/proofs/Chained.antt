@@ -24,9 +24,6 @@ module _ (m : ℕ) (p : List ℕ) (w h s f : ℕ) where
   chained z old done e r a = a ∙ sym (answer_tail done w h) ∙ ap (λ (d : List ℕ). detect_answer d w h) (denoised_first m p w h s f z old done e)
 
 -- ---- what is left of a slice, by the number that the chain answers where the stages give m
-pub left_as : (m n : ℕ) → n ≡ m → (x new old : List ℕ) → x ≡ left_after m new old → x ≡ left_after n new old
-left_as m n p x new old g = g ∙ ap (λ (k : ℕ). left_after k new old) (sym p)
-
 left_six : (b : Bool) (new old : List ℕ) → left_after 0 new old ≡ left_after (cond b 6 0) new old
 unfolding left_after
 left_six true new old = refl

@@ -1,38 +1,42 @@
 // The whole chain for the unit's firmware, which is C: numbers and byte slices only, and the refusal's number for an answer. The crate chain_c exports it.
 ghost use Rattle.std.specs.Prelude.{◌≡◌, ◌∷◌, []};
 ghost use Rattle.lcr_core.specs.Outcome.{number_of};
-ghost use Rattle.stages.specs.Stages.{stages_refusal};
 ghost use Rattle.stages.specs.Pictures.{gray_after, bits_after, denoised_after, means_after, least_after, greatest_after, edges_after, nears_after};
+ghost use Rattle.stages.specs.Lent.{refusal_with, LeftAfter, HoldsSame};
+ghost use Rattle.chain.specs.Lent.{entry_with};
 ghost use Rattle.chain.specs.Chain.{entry_refusal, entry_answer, detections_after};
 
-use lcr_core::Refusal;
+use blocks::Blocks;
+use image::gray::LentPixels;
+use lcr_core::{Refusal, number};
+use stages::Slices;
 
-// What is refused before a byte is written, for `len` picture bytes and lent slices of these lengths.
-fn check_entry(
-    len: usize,
-    width: u32,
-    height: u32,
-    stride: u32,
-    format: u8,
-    gray: usize,
-    bits: usize,
-    denoised: usize,
-    means: usize,
-    least: usize,
-    greatest: usize,
-    edges: usize,
-    nears: usize,
-    detections: usize,
-) -> Result<(), Refusal>
-    ensures { number_of result ≡ entry_refusal (stages_refusal len width height stride format gray bits denoised (means ∷ least ∷ greatest ∷ edges ∷ nears ∷ [])) detections }
+// What is refused before a byte is written, with `room` bytes for the detections.
+fn check_entry(pixels: LentPixels<'_>, slices: &Slices<'_, '_>, room: usize) -> Result<(), Refusal>
+    ensures { number_of result ≡ entry_refusal (refusal_with pixels.entry slices.now) room }
 {
-    stages::check_stages(
-        len, width, height, stride, format, gray, bits, denoised, means, least, greatest, edges,
-        nears,
-    )?;
-    if detections < firmware::SIZE {
+    stages::check_stages(pixels, slices)?;
+    if room < firmware::SIZE {
         return Err(Refusal::ShortOutput);
     }
+    Ok(())
+}
+
+// The chain, and its detections as bytes in `detections`, all checked before a byte is written.
+fn put_chain(
+    pixels: LentPixels<'_>,
+    slices: &mut Slices<'_, '_>,
+    detections: &mut [u8],
+) -> Result<(), Refusal>
+    ensures refusal { number_of result ≡ number_of (entry_with pixels.entry slices.old detections.old) }
+    ensures same { HoldsSame slices.old slices.new }
+    ensures left { LeftAfter (number_of result) pixels.entry slices.old slices.new }
+    ensures detections { let p = pixels.entry in
+        detections.new ≡ detections_after (number_of result) p.«data».now p.width p.height p.stride p.format detections.old }
+{
+    check_entry(pixels, slices, detections.len())?;
+    let found = crate::chain(pixels, slices)?;
+    firmware::put_detections(detections, found);
     Ok(())
 }
 
@@ -66,34 +70,25 @@ pub fn plate_chain(
     ensures nears { nears.new ≡ nears_after result picture.now width height stride format nears.old }
     ensures detections { detections.new ≡ detections_after result picture.now width height stride format detections.old }
 {
-    let checked = check_entry(
-        picture.len(),
+    let pixels = LentPixels {
+        data: picture,
         width,
         height,
         stride,
         format,
-        gray.len(),
-        bits.len(),
-        denoised.len(),
-        means.len(),
-        least.len(),
-        greatest.len(),
-        edges.len(),
-        nears.len(),
-        detections.len(),
-    );
-    if let Err(refusal) = checked {
-        return u8::from(refusal);
-    }
-    let answer = crate::chain(
-        picture, width, height, stride, format, gray, bits, denoised, means, least, greatest,
-        edges, nears,
-    );
-    match answer {
-        Ok(found) => {
-            firmware::put_detections(detections, found);
-            0
-        }
-        Err(refusal) => u8::from(refusal),
-    }
+    };
+    let mut blocks = Blocks {
+        means,
+        least,
+        greatest,
+        edges,
+        nears,
+    };
+    let mut slices = Slices {
+        gray,
+        bits,
+        denoised,
+        blocks: &mut blocks,
+    };
+    number(put_chain(pixels, &mut slices, detections))
 }

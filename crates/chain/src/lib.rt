@@ -1,47 +1,33 @@
 // The whole chain in one call: the picture stages, then the detections of the denoised bits.
 #![tactic(auto)]
 
-ghost use Rattle.std.specs.Prelude.{◌≡◌, ◌∷◌, []};
+ghost use Rattle.std.specs.Prelude.{◌≡◌};
 ghost use Rattle.lcr_core.specs.Outcome.{number_of};
-ghost use Rattle.stages.specs.Pictures.{gray_after, bits_after, denoised_after, means_after, least_after, greatest_after, edges_after, nears_after};
-ghost use Rattle.chain.specs.Chain.{whole_answer};
+ghost use Rattle.stages.specs.Lent.{LeftAfter, HoldsSame};
+ghost use Rattle.chain.specs.Lent.{answer_with};
 
+use binary::picture::LentBits;
 use candidates::Detections;
+use image::gray::LentPixels;
 use lcr_core::Refusal;
+use stages::Slices;
 
 pub mod entry;
 
 // Gray conversion, black and white conversion, denoising and the detections of the denoised bits. Refusals 1 to 5 come before a byte is written; after 6,
 // too many finders, the lent slices hold what they hold after 0.
-pub fn chain(
-    picture: &[u8],
-    width: u32,
-    height: u32,
-    stride: u32,
-    format: u8,
-    gray: &mut [u8],
-    bits: &mut [u8],
-    denoised: &mut [u8],
-    means: &mut [u8],
-    least: &mut [u8],
-    greatest: &mut [u8],
-    edges: &mut [u8],
-    nears: &mut [u8],
-) -> Result<Detections, Refusal>
-    ensures answer { result ≡ whole_answer picture.now width height stride format gray.old bits.old denoised.old
-        (means.old ∷ least.old ∷ greatest.old ∷ edges.old ∷ nears.old ∷ []) }
-    ensures gray { gray.new ≡ gray_after (number_of result) picture.now width height stride format gray.old }
-    ensures bits { bits.new ≡ bits_after (number_of result) picture.now width height stride format bits.old }
-    ensures denoised { denoised.new ≡ denoised_after (number_of result) picture.now width height stride format denoised.old }
-    ensures means { means.new ≡ means_after (number_of result) picture.now width height stride format means.old }
-    ensures least { least.new ≡ least_after (number_of result) picture.now width height stride format least.old }
-    ensures greatest { greatest.new ≡ greatest_after (number_of result) picture.now width height stride format greatest.old }
-    ensures edges { edges.new ≡ edges_after (number_of result) picture.now width height stride format edges.old }
-    ensures nears { nears.new ≡ nears_after (number_of result) picture.now width height stride format nears.old }
+pub fn chain(pixels: LentPixels<'_>, slices: &mut Slices<'_, '_>) -> Result<Detections, Refusal>
+    ensures answer { result ≡ answer_with pixels.entry slices.old }
+    ensures same { HoldsSame slices.old slices.new }
+    ensures left { LeftAfter (number_of result) pixels.entry slices.old slices.new }
 {
-    stages::stages(
-        picture, width, height, stride, format, gray, bits, denoised, means, least, greatest,
-        edges, nears,
-    )?;
-    candidates::detect_candidates(denoised, width, height)
+    stages::stages(pixels, slices)?;
+    // Lent by `&` it would not be known to stay as it is.
+    let denoised = &mut *slices.denoised;
+    let bits = LentBits {
+        bits: denoised,
+        width: pixels.width,
+        height: pixels.height,
+    };
+    candidates::detect_candidates(bits)
 }

@@ -5,7 +5,8 @@ ghost use Rattle.std.specs.Prelude.{◌≡◌, ◌+◌, ◌≤◌, ◌<◌};
 ghost use Rattle.binary.specs.Line.{pixel};
 ghost use Rattle.confirm.specs.Confirm.{limit_of, is_cut, side_of, side_before, side_after, centre_of, core_of, confirm_vertical, confirm_horizontal, row_confirmed, column_confirmed, confirmed_on};
 
-use binary::line::{End, Run, limited_back, limited_on};
+use binary::line::{End, Line, Run};
+use binary::picture::BitPicture;
 use transform::Point;
 
 // The runs beyond a core on one side, and whether the limit ended one of them.
@@ -40,24 +41,27 @@ fn side_of(light: Run, dark: Run) -> Side
     }
 }
 
-fn side_before(bits: &[u8], start: u32, stride: u32, from: u16, limit: u64) -> Side
-    ensures { result ≡ side_before (pixel bits.now start stride) limit from }
+#[tactic(auto, unfolding(crate::specs::Confirm::side_before))]
+fn side_before(line: Line<'_>, from: u16, limit: u64) -> Side
+    ensures { let l = line.entry in result ≡ side_before (pixel l.bits.now l.start l.stride) limit from }
 {
-    let light = limited_back(bits, start, stride, from, limit, false);
-    let dark = limited_back(bits, start, stride, from - light.count, limit, true);
+    let light = line.limited_back(from, limit, false);
+    let dark = line.limited_back(from - light.count, limit, true);
     side_of(light, dark)
 }
 
-fn side_after(bits: &[u8], start: u32, stride: u32, len: u16, from: u16, limit: u64) -> Side
-    requires { from ≤ len }
-    ensures { result ≡ side_after (pixel bits.now start stride) len limit from }
+#[tactic(auto, unfolding(crate::specs::Confirm::side_after))]
+fn side_after(line: Line<'_>, from: u16, limit: u64) -> Side
+    requires { from ≤ line.len }
+    ensures { let l = line.entry in result ≡ side_after (pixel l.bits.now l.start l.stride) l.len limit from }
 {
-    let light = limited_on(bits, start, stride, len, from, limit, false);
-    let dark = limited_on(bits, start, stride, len, from + light.count, limit, true);
+    let light = line.limited_on(from, limit, false);
+    let dark = line.limited_on(from + light.count, limit, true);
     side_of(light, dark)
 }
 
 // The centre of a core of so many pixels that starts at pixel `top`, where the runs pass.
+#[tactic(auto, unfolding(crate::specs::Confirm::centre_of))]
 fn centre_of(a: Side, core: u16, b: Side, top: u16) -> Option<f32>
     ensures { result ≡ centre_of a core b top }
 {
@@ -66,17 +70,18 @@ fn centre_of(a: Side, core: u16, b: Side, top: u16) -> Option<f32>
 }
 
 // The centre of the core about the dark pixel i of a line, where the runs pass and the limit ended none.
-fn core_on(bits: &[u8], start: u32, stride: u32, len: u16, i: u16, module: f32) -> Option<f32>
-    requires { i < len }
-    ensures { result ≡ core_of (pixel bits.now start stride) len i (limit_of «module») }
+#[tactic(auto, unfolding(crate::specs::Confirm::any_cut, crate::specs::Confirm::counted_of, crate::specs::Confirm::core_of))]
+fn core_on(line: Line<'_>, i: u16, module: f32) -> Option<f32>
+    requires { i < line.len }
+    ensures { let l = line.entry in result ≡ core_of (pixel l.bits.now l.start l.stride) l.len i (limit_of «module») }
 {
     let limit = limit_of(module);
-    let up = limited_back(bits, start, stride, i, limit, true);
-    let down = limited_on(bits, start, stride, len, i + 1, limit, true);
+    let up = line.limited_back(i, limit, true);
+    let down = line.limited_on(i + 1, limit, true);
     let core = up.count + down.count + 1;
     let top = i - up.count;
-    let a = side_before(bits, start, stride, top, limit);
-    let b = side_after(bits, start, stride, len, i + 1 + down.count, limit);
+    let a = side_before(line, top, limit);
+    let b = side_after(line, i + 1 + down.count, limit);
     if is_cut(up.end) | is_cut(down.end) | a.cut | b.cut {
         return None;
     }
@@ -84,87 +89,62 @@ fn core_on(bits: &[u8], start: u32, stride: u32, len: u16, i: u16, module: f32) 
 }
 
 // The finder's y on column x, about row y.
-pub fn confirm_vertical(
-    bits: &[u8],
-    width: u16,
-    height: u16,
-    x: u32,
-    y: u32,
-    module: f32,
-) -> Option<f32>
-    ensures { result ≡ confirm_vertical bits.now width height x y «module» }
+#[tactic(auto, using(crate::proofs::Inside::dark_inside), unfolding(crate::specs::Confirm::vertical_by))]
+pub fn confirm_vertical(picture: BitPicture<'_>, x: u32, y: u32, module: f32) -> Option<f32>
+    ensures { let p = picture.entry in result ≡ confirm_vertical p.bits.now p.width p.height x y «module» }
 {
-    if binary::dark(bits, width as u32, height as u32, x, y) {
-        return core_on(bits, x, width as u32, height, y as u16, module);
+    if picture.dark(x, y) {
+        return core_on(picture.column(x as u16), y as u16, module);
     }
     None
 }
 
 // The finder's x on row y, about column x.
-pub fn confirm_horizontal(
-    bits: &[u8],
-    width: u16,
-    height: u16,
-    x: u32,
-    y: u32,
-    module: f32,
-) -> Option<f32>
-    ensures { result ≡ confirm_horizontal bits.now width height x y «module» }
+#[tactic(auto, using(crate::proofs::Inside::dark_inside), unfolding(crate::specs::Confirm::horizontal_by))]
+pub fn confirm_horizontal(picture: BitPicture<'_>, x: u32, y: u32, module: f32) -> Option<f32>
+    ensures { let p = picture.entry in result ≡ confirm_horizontal p.bits.now p.width p.height x y «module» }
 {
-    if binary::dark(bits, width as u32, height as u32, x, y) {
-        return core_on(bits, y * width as u32, 1, width, x as u16, module);
+    if picture.dark(x, y) {
+        return core_on(picture.row(y as u16), x as u16, module);
     }
     None
 }
 
 // A hit on a row is confirmed down, then across.
-fn confirm_row(
-    bits: &[u8],
-    width: u16,
-    height: u16,
-    row: u16,
-    centre: f32,
-    module: f32,
-) -> Option<Point>
-    ensures { result ≡ row_confirmed bits.now width height row centre «module» }
+#[tactic(auto, unfolding(crate::specs::Confirm::row_by))]
+fn confirm_row(picture: BitPicture<'_>, row: u16, centre: f32, module: f32) -> Option<Point>
+    ensures { let p = picture.entry in result ≡ row_confirmed p.bits.now p.width p.height row centre «module» }
 {
     let column = float::to_u32(centre);
-    let y = confirm_vertical(bits, width, height, column, row as u32, module)?;
-    let x = confirm_horizontal(bits, width, height, column, float::to_u32(y), module)?;
+    let y = confirm_vertical(picture, column, row as u32, module)?;
+    let x = confirm_horizontal(picture, column, float::to_u32(y), module)?;
     Some(Point { x, y })
 }
 
 // A hit on a column is confirmed across, then down.
-fn confirm_column(
-    bits: &[u8],
-    width: u16,
-    height: u16,
-    column: u16,
-    centre: f32,
-    module: f32,
-) -> Option<Point>
-    ensures { result ≡ column_confirmed bits.now width height column centre «module» }
+#[tactic(auto, unfolding(crate::specs::Confirm::column_by))]
+fn confirm_column(picture: BitPicture<'_>, column: u16, centre: f32, module: f32) -> Option<Point>
+    ensures { let p = picture.entry in result ≡ column_confirmed p.bits.now p.width p.height column centre «module» }
 {
     let row = float::to_u32(centre);
-    let x = confirm_horizontal(bits, width, height, column as u32, row, module)?;
-    let y = confirm_vertical(bits, width, height, float::to_u32(x), row, module)?;
+    let x = confirm_horizontal(picture, column as u32, row, module)?;
+    let y = confirm_vertical(picture, float::to_u32(x), row, module)?;
     Some(Point { x, y })
 }
 
 // The finder of a hit of so large a module at `centre` of row or column `number`.
+#[tactic(auto, unfolding(crate::specs::Confirm::confirmed_by))]
 pub fn confirm_hit(
-    bits: &[u8],
-    width: u16,
-    height: u16,
+    picture: BitPicture<'_>,
     columns: bool,
     number: u16,
     centre: f32,
     module: f32,
 ) -> Option<Point>
-    ensures { result ≡ confirmed_on bits.now width height columns number centre «module» }
+    ensures { let p = picture.entry in result ≡ confirmed_on p.bits.now p.width p.height columns number centre «module» }
 {
     if columns {
-        return confirm_column(bits, width, height, number, centre, module);
+        return confirm_column(picture, number, centre, module);
     }
-    confirm_row(bits, width, height, number, centre, module)
+    confirm_row(picture, number, centre, module)
 }

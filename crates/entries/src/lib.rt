@@ -1,5 +1,5 @@
-// The single stages as C calls them, for measurements and tests, over numbers and slices. Each gives the number of its stage's refusal, or 0. The crate
-// entries_c exports them.
+// The single stages as C calls them, for measurements and tests, over numbers and slices one by one, as C has them. Each gives the number of its stage's
+// refusal, or 0. The crate entries_c exports them.
 #![tactic(auto)]
 
 ghost use Rattle.std.specs.Prelude.{◌≡◌, ◌∷◌, [], length};
@@ -15,6 +15,10 @@ ghost use Rattle.candidates.specs.Candidates.{table_in, detect_answer};
 ghost use Rattle.firmware.specs.Firmware.{firmware_bytes};
 ghost use Rattle.entries.specs.Entries.{list_refusal, room_checks, candidates_refusal};
 
+use binary::picture::LentBits;
+use blocks::Blocks;
+use blocks::picture::LentGray;
+use image::gray::LentPixels;
 use lcr_core::{Refusal, number};
 
 // Gray conversion.
@@ -29,7 +33,14 @@ pub fn plate_gray(
     ensures number { result ≡ gray_refusal (length picture.now) width height stride format (length gray.old) }
     ensures written { gray.new ≡ gray_written picture.now width height stride format gray.old }
 {
-    number(image::gray::gray_buffer(picture, width, height, stride, format, gray))
+    let pixels = LentPixels {
+        data: picture,
+        width,
+        height,
+        stride,
+        format,
+    };
+    number(image::gray::gray_buffer(pixels, gray))
 }
 
 // Black and white conversion.
@@ -53,9 +64,19 @@ pub fn plate_binarize(
     ensures nears { nears.new ≡ blocks_after result width height (near_at gray.now width height) nears.old }
     ensures bits { bits.new ≡ dark_after result gray.now width height bits.old }
 {
-    number(binarize::binarize(
-        gray, width, height, means, least, greatest, edges, nears, bits,
-    ))
+    let gray = LentGray {
+        gray,
+        width,
+        height,
+    };
+    let mut blocks = Blocks {
+        means,
+        least,
+        greatest,
+        edges,
+        nears,
+    };
+    number(binarize::binarize(gray, &mut blocks, bits))
 }
 
 // Denoising.
@@ -63,7 +84,22 @@ pub fn plate_denoised(bits: &[u8], width: u32, height: u32, denoised: &mut [u8])
     ensures number { result ≡ denoised_refusal (length bits.now) width height (length denoised.old) }
     ensures written { denoised.new ≡ denoised_written bits.now width height denoised.old }
 {
-    number(image::denoise::denoised(bits, width, height, denoised))
+    let bits = LentBits {
+        bits,
+        width,
+        height,
+    };
+    number(image::denoise::denoised(bits, denoised))
+}
+
+// The finder search, and the stored list of what it finds; how long the list is.
+fn list_finders(bits: LentBits<'_>, list: &mut [u8]) -> Result<u32, Refusal>
+    ensures number { let p = bits.entry in number_of result ≡ list_refusal (answer_of p.bits.now p.width p.height) p.width p.height (length list.old) }
+    ensures list { let p = bits.entry in list.new ≡ unless (number_of result) list.old
+        (written (stored_bytes p.width p.height (held_in (finders_in (answer_of p.bits.now p.width p.height)))) list.old) }
+{
+    let found = finders::find_finders(bits)?;
+    stored::write_list(found, bits.width, bits.height, list)
 }
 
 // The finder search, which leaves the stored list.
@@ -72,23 +108,34 @@ pub fn plate_finders(bits: &[u8], width: u32, height: u32, list: &mut [u8]) -> u
     ensures list { list.new ≡ unless result list.old
         (written (stored_bytes width height (held_in (finders_in (answer_of bits.now width height)))) list.old) }
 {
-    match finders::find_finders(bits, width, height) {
-        Ok(found) => match stored::write_list(found, width, height, list) {
-            Ok(_) => 0,
-            Err(refusal) => u8::from(refusal),
-        },
-        Err(refusal) => u8::from(refusal),
-    }
+    let bits = LentBits {
+        bits,
+        width,
+        height,
+    };
+    number(list_finders(bits, list))
 }
 
-// What is refused before the search, for so many bytes of bits and of room.
-fn check_candidates(len: usize, width: u32, height: u32, room: usize) -> Result<(), Refusal>
-    ensures { number_of result ≡ first_of (room_checks len width height room) }
+// What is refused before the search, with so many bytes of room.
+fn check_candidates(bits: LentBits<'_>, room: usize) -> Result<(), Refusal>
+    ensures { let p = bits.entry in number_of result ≡ first_of (room_checks (length p.bits.now) p.width p.height room) }
 {
-    binary::refusal::check_bits(len, width, height)?;
+    bits.checked()?;
     if room < firmware::SIZE {
         return Err(Refusal::ShortOutput);
     }
+    Ok(())
+}
+
+// The detections, and the firmware's bytes of them.
+fn put_candidates(bits: LentBits<'_>, detections: &mut [u8]) -> Result<(), Refusal>
+    ensures number { let p = bits.entry in number_of result ≡ candidates_refusal p.bits.now p.width p.height (length detections.old) }
+    ensures detections { let p = bits.entry in detections.new ≡ unless (number_of result) detections.old
+        (written (firmware_bytes (table_in (detect_answer p.bits.now p.width p.height))) detections.old) }
+{
+    check_candidates(bits, detections.len())?;
+    let found = candidates::detect_candidates(bits)?;
+    firmware::put_detections(detections, found);
     Ok(())
 }
 
@@ -98,15 +145,10 @@ pub fn plate_candidates(bits: &[u8], width: u32, height: u32, detections: &mut [
     ensures detections { detections.new ≡ unless result detections.old
         (written (firmware_bytes (table_in (detect_answer bits.now width height))) detections.old) }
 {
-    let n = number(check_candidates(bits.len(), width, height, detections.len()));
-    if n != 0 {
-        return n;
-    }
-    match candidates::detect_candidates(bits, width, height) {
-        Ok(found) => {
-            firmware::put_detections(detections, found);
-            0
-        }
-        Err(too_many) => u8::from(too_many),
-    }
+    let bits = LentBits {
+        bits,
+        width,
+        height,
+    };
+    number(put_candidates(bits, detections))
 }

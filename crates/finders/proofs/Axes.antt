@@ -6,16 +6,14 @@ use Rattle.lists.specs.Lists.{range, folded, flat_map}
 use Rattle.lists.proofs.Folds.{each_range, folded-append, flat_map_few, flat_map_same, length-count}
 use Rattle.lcr_core.specs.Outcome.{max_side}
 use Rattle.lcr_core.specs.Passed.{Sides}
-use Rattle.binary.specs.Line.{pixel}
 use Rattle.ratio.specs.Ratio.{match_of}
 use Rattle.confirm.specs.Confirm.{core_of, confirmed_on}
 use Rattle.std.specs.Prelude.{Option, Some, None}
 use Rattle.transform.specs.declared.Point.{Point}
-use Rattle.finders.specs.declared.search.Line.{Line}
 use Rattle.finders.specs.Hits.{Hit, runs, hit_if, window, hits, line_hits}
 use Rattle.finders.specs.Held.{Sighting, Held, held, over, merge_next}
 use Rattle.finders.specs.Search.{max_finders, sighting, seen, every_second, row_sightings_by, column_sightings_by, sightings_by, found_by, found}
-use Rattle.finders.specs.Inner.{line_most, axis_most, Fine, line_at, line_count, line_sightings, scanned, scanned_at, axis}
+use Rattle.finders.specs.Inner.{line_most, axis_most, Fine, line_count, line_len, line_at, line_sightings, scanned, scanned_at, axis}
 use Rattle.finders.proofs.Folding.{folded-flat_map}
 use Rattle.finders.proofs.Tables.{over_stays, fine_mono, folded_fine}
 
@@ -58,6 +56,16 @@ pub second_same : (f g : ℕ → List Sighting) (n : ℕ) → ((k : ℕ) → 2 *
 second_same f g n e =
     flat_map_same (λ (k : ℕ). f (2 * k)) (λ (k : ℕ). g (2 * k)) (range 0 ((n + 1) / 2)) (each_range (λ (k : ℕ). f (2 * k) ≡ g (2 * k)) 0 ((n + 1) / 2) (λ k _ l. e k (omega arith)))
 
+-- a line's pixels, and an axis' lines
+module _ {width height : ℕ} (p : Sides width height) where
+  pub line_short : (columns : Bool) → line_len width height columns ≤ max_side
+  line_short true = p.h_most
+  line_short false = p.w_most
+
+  pub count_small : (columns : Bool) → line_count width height columns ≤ max_side
+  count_small true = p.w_most
+  count_small false = p.h_most
+
 module _ (bits : List ℕ) (width height : ℕ) where
   -- and no more confirmed hits than hits
   seen_one : (columns : Bool) (n : ℕ) (h : Hit) → length (seen bits width height columns n h) ≤ 1
@@ -67,48 +75,37 @@ module _ (bits : List ℕ) (width height : ℕ) where
       go (Some p) = omega arith
       go None = omega arith
 
-  sightings_few : (l : Line) → length (line_sightings bits width height l) ≤ l.len + 1
-  sightings_few l =
-      omega (arith, flat_map_few (seen bits width height l.columns l.number) (seen_one l.columns l.number) (line_hits (pixel bits l.start l.stride) l.len), hits_few (pixel bits l.start l.stride) l.len)
-
-  pub scanned_fine : (s : Held) (l : Line) (k : ℕ) → l.len ≤ max_side → Fine s k → Fine (scanned bits width height s l) (k + line_most)
-  scanned_fine s l k h f =
-      fine_mono (scanned bits width height s l) (k + length (line_sightings bits width height l)) (k + line_most) (omega (arith, sightings_few l)) (folded_fine s (line_sightings bits width height l) k f)
+  sightings_few : (columns : Bool) (n : ℕ) → length (line_sightings bits width height columns n) ≤ line_len width height columns + 1
+  sightings_few columns n =
+      let f = line_at bits width columns n in
+      let len = line_len width height columns in
+      omega (arith, flat_map_few (seen bits width height columns n) (seen_one columns n) (line_hits f len), hits_few f len)
 
   module _ (p : Sides width height) (columns : Bool) where
-    pub line_short : (n : ℕ) → (line_at width height columns n).len ≤ max_side
-    line_short n = go columns
-      where
-        go : (c : Bool) → (line_at width height c n).len ≤ max_side
-        go true = p.h_most
-        go false = p.w_most
-
-    pub count_small : line_count width height columns ≤ max_side
-    count_small = go columns
-      where
-        go : (c : Bool) → line_count width height c ≤ max_side
-        go true = p.w_most
-        go false = p.h_most
+    pub scanned_fine : (s : Held) (n k : ℕ) → Fine s k → Fine (scanned bits width height columns s n) (k + line_most)
+    scanned_fine s n k f =
+        let ss = line_sightings bits width height columns n in
+        fine_mono (scanned bits width height columns s n) (k + length ss) (k + line_most) (omega (arith, sightings_few columns n, line_short p columns)) (folded_fine s ss k f)
 
     lines_fine : (s : Held) (ns : List ℕ) (k : ℕ) → Fine s k → Fine (folded (scanned_at bits width height columns) s ns) (k + line_most * length ns)
     unfolding folded
     lines_fine s [] k f = fine_mono s k (k + line_most * 0) (omega arith) f
     lines_fine s (n ∷ ns) k f =
         fine_mono (folded (scanned_at bits width height columns) (scanned_at bits width height columns s n) ns) (k + line_most + line_most * length ns) (k + line_most * suc (length ns)) (omega arith)
-        (lines_fine (scanned_at bits width height columns s n) ns (k + line_most) (scanned_fine s (line_at width height columns (2 * n)) k (line_short (2 * n)) f))
+        (lines_fine (scanned_at bits width height columns s n) ns (k + line_most) (scanned_fine s (2 * n) k f))
 
     pub axis_fine : (s : Held) (k : ℕ) → Fine s k → Fine (axis bits width height columns s) (k + axis_most)
     unfolding axis
     axis_fine s k f =
         let c = (line_count width height columns + 1) / 2 in
-        fine_mono (folded (scanned_at bits width height columns) s (range 0 c)) (k + line_most * length (range 0 c)) (k + axis_most) (omega (arith, count_small, length-count 0 (c - 0)))
+        fine_mono (folded (scanned_at bits width height columns) s (range 0 c)) (k + line_most * length (range 0 c)) (k + axis_most) (omega (arith, count_small p columns, length-count 0 (c - 0)))
         (lines_fine s (range 0 c) k f)
 
     -- a hit too many stays one
     pub lines_over : (ns : List ℕ) → folded (scanned_at bits width height columns) over ns ≡ over
     unfolding folded
     lines_over [] = refl
-    lines_over (n ∷ ns) = rw (over_stays max_finders (line_sightings bits width height (line_at width height columns (2 * n)))) (lines_over ns)
+    lines_over (n ∷ ns) = rw (over_stays max_finders (line_sightings bits width height columns (2 * n))) (lines_over ns)
 
     pub axis_over : axis bits width height columns over ≡ over
     unfolding axis

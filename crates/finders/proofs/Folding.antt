@@ -1,5 +1,5 @@
 -- A fold over a list that is made of parts, or of some elements only. Assumes nothing.
-use Rattle.std.proofs.Common.{◌≡◌, ℕ, ◌+◌, ◌<◌, ◌≤◌, Bool, true, false, cond, List, [], ◌∷◌, length, get_or, take, drop, refl, ap, ◌∙◌, le_of_eq, add-one, drop_of_length-le, length-take-le, drop-cons, get_or-take}
+use Rattle.std.proofs.Common.{◌≡◌, ℕ, ◌+◌, ◌<◌, ◌≤◌, Bool, true, false, cond, List, [], ◌∷◌, length, get_or, drop, refl, ap, ◌∙◌, add-one, drop_of_length-le, drop-cons}
 use Rattle.lists.specs.Lists.{folded, flat_map, those}
 use Rattle.lists.proofs.Folds.{folded-append}
 
@@ -19,14 +19,12 @@ module _ {S A : Type 0} where
   folded-flat_map g f s [] = refl
   folded-flat_map g f s (x ∷ xs) = folded-append g s (f x) (flat_map f xs) ∙ folded-flat_map g f (folded g s (f x)) xs
 
-  -- over the first n places of a table, at place i
-  module _ (g : S → A → S) (s : S) (xs : List A) (n : ℕ) (fit : n ≤ length xs) where
-    pub fold_next : (i : ℕ) (d : A) → i < n → folded g s (drop i (take n xs)) ≡ folded g (g s (get_or xs i d)) (drop (i + 1) (take n xs))
+  -- over a list from place i on
+  module _ (g : S → A → S) (s : S) (xs : List A) (i : ℕ) where
+    pub fold_next : (d : A) → i < length xs → folded g s (drop i xs) ≡ folded g (g s (get_or xs i d)) (drop (i + 1) xs)
     unfolding folded
-    fold_next i d h =
-        let l : i < length (take n xs) = rw (length-take-le n xs fit) h in
-        ap (folded g s) (drop-cons (take n xs) i d l) ∙ rw (get_or-take n xs i d h, add-one)
+    fold_next d h = ap (folded g s) (drop-cons xs i d h) ∙ rw add-one
 
-    pub fold_last : folded g s (drop n (take n xs)) ≡ s
+    pub fold_last : length xs ≤ i → folded g s (drop i xs) ≡ s
     unfolding folded
-    fold_last = rw (drop_of_length-le (take n xs) {i = n} (le_of_eq (length-take-le n xs fit)))
+    fold_last h = rw (drop_of_length-le xs h)

@@ -70,6 +70,9 @@ pub six_after : (answer : Result Finders Refusal) (r : Refusal) (s : Held) → I
 six_after (Ok x) r s i f o = absurd i
 six_after (Err e) r s i f o = subst (λ z. RanksAfter z (Err e)) (sym o) (ap Err (i ∙ f))
 
+-- what `searched` goes by
+pub ruleset search_steps = (none_good, rows_over, rows_good, columns_over, all_few, all_ranked, six_after)
+
 -- ---- the answer
 module _ (bits : List ℕ) (width height : ℕ) where
   -- a refusal before the search

@@ -1,30 +1,14 @@
 -- Where a hit goes, in a table of any number of places. Assumes nothing.
-use Rattle.std.proofs.Common.{◌≡◌, ℕ, suc, ◌+◌, ◌<◌, ◌≤◌, Bool, true, false, cond, List, [], ◌∷◌, ◌++◌, length, get_or, take, drop, set, refl, ap, le_trans, le_of_eq, add-one, arith, length-append, length-set, drop_of_length-le, length-take-le, drop-cons, get_or-take, le-leb}
+use Rattle.std.proofs.Common.{◌≡◌, ℕ, suc, ◌+◌, ◌<◌, ◌≤◌, Bool, true, false, cond, List, [], ◌∷◌, ◌++◌, length, get_or, set, refl, ap, le_trans, arith, length-append, length-set, sym, le-leb}
 use borrow.Author.Tests.{lt-leb}
-use Rattle.lists.specs.Lists.{first_where}
+use Rattle.std.specs.Prelude.{not, Some, None, position}
+use Rattle.std.specs.List.{position_or_len}
+use Rattle.std.proofs.lemmas.Grind.{common_steps}
+use Rattle.std.proofs.lemmas.List.Quantifiers.{position-Some}
 use Rattle.lists.proofs.Filters.{each_map}
 use Rattle.geometry.specs.declared.Finder.{Finder}
 use Rattle.finders.specs.Held.{Sighting, within, join, fresh, place, held, over, merge}
 use Rattle.finders.specs.Inner.{Bounded}
-
--- ---- the search for the first that passes p, in the first n places of a table, at place i
-module _ {A : Type 0} (p : A → Bool) (xs : List A) (n : ℕ) (fit : n ≤ length xs) where
-  pub first_here : (i : ℕ) (d : A) → i < n → p (get_or xs i d) ≡ true → first_where p (drop i (take n xs)) ≡ 0
-  unfolding first_where
-  first_here i d h e =
-      let l : i < length (take n xs) = rw (length-take-le n xs fit) h in
-      rw (drop-cons (take n xs) i d l, get_or-take n xs i d h, e)
-
-  pub first_next : (i : ℕ) (d : A) → i < n → p (get_or xs i d) ≡ false
-      → first_where p (drop i (take n xs)) ≡ suc (first_where p (drop (i + 1) (take n xs)))
-  unfolding first_where
-  first_next i d h e =
-      let l : i < length (take n xs) = rw (length-take-le n xs fit) h in
-      rw (add-one, drop-cons (take n xs) i d l, get_or-take n xs i d h, e)
-
-  pub first-none : first_where p (drop n (take n xs)) ≡ 0
-  unfolding first_where
-  first-none = rw (drop_of_length-le (take n xs) {i = n} (le_of_eq (length-take-le n xs fit)))
 
 -- ---- the place of a hit
 module _ (s : Sighting) where
@@ -34,45 +18,52 @@ module _ (s : Sighting) where
   abbrev joined : Finder → Finder
   joined = join s.x s.y s.pitch
 
-  place_at : (fs : List Finder) (d : Finder) → first_where takes fs < length fs → place fs s ≡ set fs (first_where takes fs) (joined (get_or fs (first_where takes fs) d))
-  unfolding place first_where
+  -- of the first finder that it is within, or the count
+  abbrev first : List Finder → ℕ
+  first fs = position_or_len takes fs
+
+  place_at : (fs : List Finder) (d : Finder) → first fs < length fs → place fs s ≡ set fs (first fs) (joined (get_or fs (first fs) d))
+  unfolding place
   place_at [] d h = absurd (omega arith)
   place_at (f ∷ fs) d h = go (takes f) h (λ k. place_at fs d k)
     where
-      go : (t : Bool) → cond t 0 (suc (first_where takes fs)) < suc (length fs)
-          → (first_where takes fs < length fs → place fs s ≡ set fs (first_where takes fs) (joined (get_or fs (first_where takes fs) d)))
-          → cond t (joined f ∷ fs) (f ∷ place fs s)
-          ≡ set (f ∷ fs) (cond t 0 (suc (first_where takes fs))) (joined (get_or (f ∷ fs) (cond t 0 (suc (first_where takes fs))) d))
+      go : (t : Bool) → cond (not t) (1 + first fs) 0 < suc (length fs)
+          → (first fs < length fs → place fs s ≡ set fs (first fs) (joined (get_or fs (first fs) d)))
+          → cond t (joined f ∷ fs) (f ∷ place fs s) ≡ set (f ∷ fs) (cond (not t) (1 + first fs) 0) (joined (get_or (f ∷ fs) (cond (not t) (1 + first fs) 0) d))
       go true k r = refl
-      go false k r = ap (λ l. f ∷ l) (r (omega arith))
+      go false k r = let e : 1 + first fs ≡ suc (first fs) = omega arith in rw e (ap (λ l. f ∷ l) (r (omega arith)))
 
-  pub place_new : (fs : List Finder) → length fs ≤ first_where takes fs → place fs s ≡ fs ++ (fresh s ∷ [])
-  unfolding place first_where
+  place_new : (fs : List Finder) → length fs ≤ first fs → place fs s ≡ fs ++ (fresh s ∷ [])
+  unfolding place
   place_new [] h = refl
   place_new (f ∷ fs) h = go (takes f) h (λ k. place_new fs k)
     where
-      go : (t : Bool) → suc (length fs) ≤ cond t 0 (suc (first_where takes fs))
-          → (length fs ≤ first_where takes fs → place fs s ≡ fs ++ (fresh s ∷ []))
+      go : (t : Bool) → suc (length fs) ≤ cond (not t) (1 + first fs) 0 → (length fs ≤ first fs → place fs s ≡ fs ++ (fresh s ∷ []))
           → cond t (joined f ∷ fs) (f ∷ place fs s) ≡ f ∷ (fs ++ (fresh s ∷ []))
       go true k r = absurd (omega arith)
       go false k r = ap (λ l. f ∷ l) (r (omega arith))
 
-  module _ (limit : ℕ) (fs : List Finder) (few : length fs ≤ limit) (i : ℕ) (e : i ≡ first_where takes fs) where
+  module _ (limit : ℕ) (fs : List Finder) (few : length fs ≤ limit) where
     kept : (gs : List Finder) → place fs s ≡ gs → length gs ≤ limit → merge limit fs s ≡ held gs
     unfolding merge
     kept gs p h = rw (p, le-leb (length gs) limit h)
 
-    pub merge-join : (d : Finder) → i < length fs → merge limit fs s ≡ held (set fs i (joined (get_or fs i d)))
-    merge-join d h =
-        let p : place fs s ≡ set fs i (joined (get_or fs i d)) = rw e (place_at fs d (rw e at h)) in
+    pub merge-join : (i : ℕ) (d : Finder) → position takes fs ≡ Some i → merge limit fs s ≡ held (set fs i (joined (get_or fs i d)))
+    merge-join i d h =
+        let e : first fs ≡ i = grind (arith, common_steps) in
+        let p : place fs s ≡ set fs i (joined (get_or fs i d)) = rw (sym e) (place_at fs d (rw e ((position-Some takes fs i d h).0))) in
         kept (set fs i (joined (get_or fs i d))) p (rw (length-set fs i (joined (get_or fs i d))) few)
 
-    pub merge_new : length fs ≤ i → length fs < limit → merge limit fs s ≡ held (fs ++ (fresh s ∷ []))
-    merge_new h l = kept (fs ++ (fresh s ∷ [])) (place_new fs (rw e at h)) (rw (length-append fs (fresh s ∷ [])) (omega arith))
+    module _ (h : position takes fs ≡ None) where
+      new : place fs s ≡ fs ++ (fresh s ∷ [])
+      new = place_new fs (grind (arith, common_steps))
 
-    pub merge_over : length fs ≤ i → limit ≤ length fs → merge limit fs s ≡ over
-    unfolding merge
-    merge_over h l = rw (place_new fs (rw e at h), lt-leb (length (fs ++ (fresh s ∷ []))) limit (rw (length-append fs (fresh s ∷ [])) (omega arith)))
+      pub merge_new : length fs < limit → merge limit fs s ≡ held (fs ++ (fresh s ∷ []))
+      merge_new l = kept (fs ++ (fresh s ∷ [])) new (rw (length-append fs (fresh s ∷ [])) (omega arith))
+
+      pub merge_over : limit ≤ length fs → merge limit fs s ≡ over
+      unfolding merge
+      merge_over l = rw (new, lt-leb (length (fs ++ (fresh s ∷ []))) limit (rw (length-append fs (fresh s ∷ [])) (omega arith)))
 
 -- ---- the counts grow by one with a hit
 pub bounded_mono : (fs : List Finder) (j k : ℕ) → j ≤ k → Bounded fs j → Bounded fs k

@@ -1,12 +1,12 @@
 -- The held finders as the code has them, in a table. Assumes nothing.
-use Rattle.std.proofs.Common.{◌≡◌, ℕ, suc, ◌+◌, ◌-◌, ◌^◌, ◌<◌, ◌≤◌, Bool, true, false, cond, leb, List, [], ◌∷◌, ◌++◌, length, get_or, set, replicate, sym, refl, ap, ◌∙◌, subst, arith, length-append, length-set, get_or-take, leb-true}
+use Rattle.std.proofs.Common.{◌≡◌, ℕ, suc, ◌+◌, ◌-◌, ◌<◌, ◌≤◌, Bool, true, false, cond, leb, List, [], ◌∷◌, ◌++◌, length, get_or, set, replicate, sym, refl, ap, ◌∙◌, subst, arith, length-append, length-set, leb-true}
 use lib.Seq.{set-append_left}
-use Rattle.std.specs.Prelude.{Result, Ok, Err, IsErrAnd}
+use Rattle.std.specs.Prelude.{Result, Ok, Err, IsErrAnd, Some, None, position}
+use Rattle.std.proofs.lemmas.List.Quantifiers.{position-Some}
 use Rattle.std.specs.Bool.{⊤}
 use Rattle.lcr_core.specs.declared.Refusal.{Refusal}
 use Rattle.lcr_core.specs.declared.Refusal.TheVariants.{FullTable}
-use Rattle.lists.specs.Lists.{folded, first_where, padded}
-use Rattle.lists.proofs.Filters.{each_get_or}
+use Rattle.lists.specs.Lists.{folded, padded}
 use Rattle.lists.proofs.Padded.{take-padded, get_or-padded, padded_more, length-padded}
 use Rattle.geometry.specs.declared.Finder.{Finder}
 use Rattle.finders.specs.declared.Finders.{Finders}
@@ -39,43 +39,37 @@ pub same_table : (n m : ℕ) (t u : List Finder) → n ≡ m → t ≡ u → ◌
 same_table n m t u p q = rw (p, q)
 
 -- ---- a hit in a table
-module _ (t : Finders) (k : ℕ) (g : Good t k) (s : Sighting) (i : ℕ) (e : i ≡ first_where (within s.x s.y) (held_in t)) where
+module _ (t : Finders) (k : ℕ) (g : Good t k) (s : Sighting) where
   few : length (held_in t) ≤ max_finders
   few = rw (held_length t g.rest) g.few
 
-  pub merged_at : (d v : Finder) → i < t.count → v ≡ join s.x s.y s.pitch (get_or t.table i d)
+  pub merged_at : (i : ℕ) (d v : Finder) → position (within s.x s.y) (held_in t) ≡ Some i → v ≡ join s.x s.y s.pitch (get_or t.table i d)
       → (let u : Finders = record { count = t.count; table = set t.table i v } in (u ≡ table_of (held_in u)) × (merge max_finders (held_in t) s ≡ held (held_in u)))
-  merged_at d v h w =
+  merged_at i d v h w =
       let n = held_length t g.rest in
-      let l : i < length (held_in t) = rw n h in
+      let l : i < length (held_in t) = (position-Some (within s.x s.y) (held_in t) i d h).0 in
       let q : get_or t.table i d ≡ get_or (held_in t) i d = ap (λ z. get_or z i d) (table_is t g.rest) ∙ get_or-padded max_finders zero_finder (held_in t) i d d l in
       let x : v ≡ join s.x s.y s.pitch (get_or (held_in t) i d) = w ∙ ap (join s.x s.y s.pitch) q in
       let m = length-set (held_in t) i v in
       ends_held _ _ (set (held_in t) i v)
       (same_table t.count (length (set (held_in t) i v)) (set t.table i v) (padded max_finders zero_finder (set (held_in t) i v)) (sym (m ∙ n))
       (ap (λ z. set z i v) (table_is t g.rest) ∙ set-append_left (held_in t) (replicate (max_finders - length (held_in t)) zero_finder) i v l ∙ rw m))
-      (merge-join s max_finders (held_in t) few i e d l ∙ ap (λ z. held (set (held_in t) i z)) (sym x))
+      (merge-join s max_finders (held_in t) few i d h ∙ ap (λ z. held (set (held_in t) i z)) (sym x))
 
-  pub merged_new : t.count ≤ i → t.count < max_finders
-      → (let u : Finders = record { count = t.count + 1; table = set t.table t.count (fresh s) } in (u ≡ table_of (held_in u)) × (merge max_finders (held_in t) s ≡ held (held_in u)))
-  merged_new h l =
-      let n = held_length t g.rest in
-      let a : length (held_in t) ≤ i = rw n h in
-      let b : length (held_in t) < max_finders = rw n l in
-      ends_held _ _ (held_in t ++ (fresh s ∷ []))
-      (same_table (t.count + 1) (length (held_in t ++ (fresh s ∷ []))) (set t.table t.count (fresh s)) (padded max_finders zero_finder (held_in t ++ (fresh s ∷ [])))
-      (sym (length-append (held_in t) (fresh s ∷ []) ∙ ap (λ z. z + 1) n))
-      (ap (λ z. set z t.count (fresh s)) (table_is t g.rest) ∙ ap (λ z. set (padded max_finders zero_finder (held_in t)) z (fresh s)) (sym n) ∙ padded_more max_finders zero_finder (held_in t) (fresh s) b))
-      (merge_new s max_finders (held_in t) few i e a b)
+  module _ (h : position (within s.x s.y) (held_in t) ≡ None) where
+    pub merged_new : t.count < max_finders
+        → (let u : Finders = record { count = t.count + 1; table = set t.table t.count (fresh s) } in (u ≡ table_of (held_in u)) × (merge max_finders (held_in t) s ≡ held (held_in u)))
+    merged_new l =
+        let n = held_length t g.rest in
+        let b : length (held_in t) < max_finders = rw n l in
+        ends_held _ _ (held_in t ++ (fresh s ∷ []))
+        (same_table (t.count + 1) (length (held_in t ++ (fresh s ∷ []))) (set t.table t.count (fresh s)) (padded max_finders zero_finder (held_in t ++ (fresh s ∷ [])))
+        (sym (length-append (held_in t) (fresh s ∷ []) ∙ ap (λ z. z + 1) n))
+        (ap (λ z. set z t.count (fresh s)) (table_is t g.rest) ∙ ap (λ z. set (padded max_finders zero_finder (held_in t)) z (fresh s)) (sym n) ∙ padded_more max_finders zero_finder (held_in t) (fresh s) b))
+        (merge_new s max_finders (held_in t) few h b)
 
-  pub merged_over : t.count ≤ i → max_finders ≤ t.count → merge max_finders (held_in t) s ≡ over
-  merged_over h l = let n = held_length t g.rest in merge_over s max_finders (held_in t) few i e (rw n h) (rw n l)
-
-pub room_at : (t : Finders) → Good t (2 ^ 32 - 2) → (i : ℕ) (d : Finder) → i < t.count → (get_or t.table i d).confirmations + 1 < 2 ^ 32
-room_at t g i d h =
-    let l : i < length (held_in t) = rw (held_length t g.rest) h in
-    let b = each_get_or (λ (f : Finder). f.confirmations ≤ 2 ^ 32 - 2) (held_in t) i d g.counts l in
-    omega (arith, rw (get_or-take t.count t.table i d h) at b)
+    pub merged_over : max_finders ≤ t.count → merge max_finders (held_in t) s ≡ over
+    merged_over l = merge_over s max_finders (held_in t) few h (rw (held_length t g.rest) l)
 
 -- ---- a hit too many stays one
 pub over_stays : (limit : ℕ) (ss : List Sighting) → folded (merge_next limit) over ss ≡ over

@@ -1,11 +1,12 @@
 -- The search as the code has it. For contracts of inner functions, and for proofs.
 use Rattle.std.specs.Prelude.{◌≡◌, ℕ, zero, suc, ◌+◌, ◌-◌, ◌*◌, ◌/◌, ◌<◌, ◌≤◌, Bool, true, false, cond, List, [], ◌∷◌, length, nat_lt, Option, Some, None, Result, Ok, Err, MatchResult}
 use Rattle.std.specs.Bool.{⊤}
-use Rattle.lists.specs.Lists.{Each, range, folded, first_where, flat_map}
+use Rattle.std.specs.List.{position_or_len}
+use Rattle.lists.specs.Lists.{Each, range, folded, flat_map}
 use Rattle.lcr_core.specs.Outcome.{max_side}
 use Rattle.lcr_core.specs.declared.Refusal.{Refusal}
 use Rattle.lcr_core.specs.declared.Refusal.TheVariants.{FullTable}
-use Rattle.binary.specs.Line.{pixel}
+use Rattle.binary.specs.Line.{row, column}
 use Rattle.finders.specs.Hits.{Hit, runs, hits, line_hits}
 use Rattle.finders.specs.Held.{Sighting, Held, held, over, merge_next}
 use Rattle.finders.specs.Search.{max_finders, seen}
@@ -13,7 +14,6 @@ use Rattle.finders.specs.Rank.{insert, stays, ranked}
 use Rattle.finders.specs.Answer.{table_of, held_in}
 use Rattle.geometry.specs.declared.Finder.{Finder}
 use Rattle.finders.specs.declared.Finders.{Finders}
-use Rattle.finders.specs.declared.search.Line.{Line}
 use Rattle.finders.specs.declared.search.Window.{Window}
 use Rattle.finders.specs.declared.search.NextHit.{NextHit}
 use Rattle.finders.specs.declared.search.NextSighting.{NextSighting}
@@ -66,37 +66,44 @@ line_most = max_side + 1
 abbrev pub axis_most : ℕ
 axis_most = line_most * ((max_side + 1) / 2)
 
--- row or column n
-abbrev pub line_at : ℕ → ℕ → Bool → ℕ → Line
-line_at width height true n = record { columns = true; number = n; start = n; stride = width; len = height }
-line_at width height false n = record { columns = false; number = n; start = n * width; stride = 1; len = width }
-
+-- how many lines it has
 abbrev pub line_count : ℕ → ℕ → Bool → ℕ
 line_count width height true = width
 line_count width height false = height
 
+-- how many pixels each of them has
+abbrev pub line_len : ℕ → ℕ → Bool → ℕ
+line_len width height true = height
+line_len width height false = width
+
+-- row or column n
+abbrev pub line_at : List ℕ → ℕ → Bool → ℕ → ℕ → Bool
+line_at bits width true n = column bits width n
+line_at bits width false n = row bits width n
+
 module _ (bits : List ℕ) (width height : ℕ) where
-  -- the confirmed hits of a line
-  abbrev pub line_sightings : Line → List Sighting
-  line_sightings l = flat_map (seen bits width height l.columns l.number) (line_hits (pixel bits l.start l.stride) l.len)
+  -- the confirmed hits of row or column n
+  abbrev pub line_sightings : Bool → ℕ → List Sighting
+  line_sightings columns n = flat_map (seen bits width height columns n) (line_hits (line_at bits width columns n) (line_len width height columns))
 
   -- those after a window
-  abbrev pub sightings_after : Line → Window → List Sighting
-  sightings_after l w = flat_map (seen bits width height l.columns l.number) (hits_after (pixel bits l.start l.stride) l.len w)
+  abbrev pub sightings_after : Bool → ℕ → Window → List Sighting
+  sightings_after columns n w = flat_map (seen bits width height columns n) (hits_after (line_at bits width columns n) (line_len width height columns) w)
 
   -- the first of them, with the window that it ends
-  abbrev pub SightedIs : Line → Window → Option NextSighting → Type 0
-  SightedIs l w None = sightings_after l w ≡ []
-  SightedIs l w (Some s) =
-      (sightings_after l w ≡ record { x = s.x; y = s.y; pitch = s.«module» } ∷ sightings_after l s.after) × (w.at < s.after.at) × FitsIn l.len s.after
+  abbrev pub SightedIs : Bool → ℕ → Window → Option NextSighting → Type 0
+  SightedIs columns n w None = sightings_after columns n w ≡ []
+  SightedIs columns n w (Some s) =
+      (sightings_after columns n w ≡ record { x = s.point.x; y = s.point.y; pitch = s.«module» } ∷ sightings_after columns n s.after) × (w.at < s.after.at)
+      × FitsIn (line_len width height columns) s.after
 
-  -- after those of a line
-  abbrev pub scanned : Held → Line → Held
-  scanned s l = folded (merge_next max_finders) s (line_sightings l)
+  -- after those of row or column n
+  abbrev pub scanned : Bool → Held → ℕ → Held
+  scanned columns s n = folded (merge_next max_finders) s (line_sightings columns n)
 
   -- after those of every second line of the axis
   abbrev pub scanned_at : Bool → Held → ℕ → Held
-  scanned_at columns s k = scanned s (line_at width height columns (2 * k))
+  scanned_at columns s k = scanned columns s (2 * k)
 
   unfoldable pub axis : Bool → Held → Held
   axis columns s = folded (scanned_at columns) s (range 0 ((line_count width height columns + 1) / 2))
@@ -104,7 +111,7 @@ module _ (bits : List ℕ) (width height : ℕ) where
 -- ---- the ranking
 -- the place at which `insert` puts a finder with n confirmations
 abbrev pub rank_of : List Finder → ℕ → ℕ
-rank_of fs n = first_where (λ (g : Finder). nat_lt g.confirmations n) fs
+rank_of fs n = position_or_len (λ (g : Finder). nat_lt g.confirmations n) fs
 
 abbrev pub keep : List Finder → Finder → List Finder
 keep fs f = cond (stays f) (insert fs f) fs

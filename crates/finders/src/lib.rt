@@ -1,12 +1,13 @@
 // The finder search: runs of 1:1:3:1:1 in a bit picture, along rows and columns, confirmed on both axes and merged.
 #![tactic(auto)]
 
-ghost use Rattle.std.specs.Prelude.{◌≡◌, []};
+ghost use Rattle.std.specs.Prelude.{◌≡◌, ◌≤◌, [], length};
 ghost use Rattle.lcr_core.specs.Passed.{Sides};
-ghost use Rattle.finders.specs.Search.{found};
-ghost use Rattle.finders.specs.Answer.{table_of, answer_of};
+ghost use Rattle.finders.specs.Search.{max_finders, found};
+ghost use Rattle.finders.specs.Answer.{table_of, held_in, answer_of};
 ghost use Rattle.finders.specs.Inner.{RanksAfter};
 
+use binary::picture::{BitPicture, LentBits};
 use geometry::Finder;
 use lcr_core::Refusal;
 use search::scan_axis;
@@ -25,6 +26,16 @@ pub struct Finders {
     pub table: [Finder; MAX_FINDERS],
 }
 
+impl Finders {
+    // The finders, all places at most.
+    pub fn as_slice(&self) -> &[Finder]
+        ensures value { result.now ≡ held_in self.now }
+        ensures most { length result.now ≤ max_finders }
+    {
+        &self.table[..self.count.min(MAX_FINDERS)]
+    }
+}
+
 pub fn no_finders() -> Finders
     ensures { result ≡ table_of [] }
 {
@@ -35,20 +46,21 @@ pub fn no_finders() -> Finders
     }
 }
 
-fn searched(bits: &[u8], width: u16, height: u16) -> Result<Finders, Refusal>
-    requires { Sides width height }
-    ensures { RanksAfter (found bits.now width height) result }
+#[tactic(auto, using(crate::proofs::Outcomes::search_steps))]
+fn searched(picture: BitPicture<'_>) -> Result<Finders, Refusal>
+    requires { Sides picture.width picture.height }
+    ensures { let p = picture.entry in RanksAfter (found p.bits.now p.width p.height) result }
 {
     let mut held = no_finders();
-    scan_axis(bits, width, height, false, &mut held)?;
-    scan_axis(bits, width, height, true, &mut held)?;
+    scan_axis(picture, false, &mut held)?;
+    scan_axis(picture, true, &mut held)?;
     Ok(held.ranked())
 }
 
 // The finders of a picture, those with most confirmations first, or a refusal: 1, 2, 4 or 6.
-pub fn find_finders(bits: &[u8], width: u32, height: u32) -> Result<Finders, Refusal>
-    ensures { result ≡ answer_of bits.now width height }
+#[tactic(auto, using(crate::proofs::Outcomes::accept, binary::proofs::Pass::bits_pass))]
+pub fn find_finders(bits: LentBits<'_>) -> Result<Finders, Refusal>
+    ensures { let p = bits.entry in result ≡ answer_of p.bits.now p.width p.height }
 {
-    binary::refusal::check_bits(bits.len(), width, height)?;
-    searched(bits, width as u16, height as u16)
+    searched(bits.checked()?)
 }

@@ -5,22 +5,14 @@ ghost use Rattle.lcr_core.specs.Outcome.{max_side};
 ghost use Rattle.binary.specs.Line.{pixel};
 ghost use Rattle.finders.specs.Held.{held};
 ghost use Rattle.finders.specs.Answer.{held_in};
-ghost use Rattle.finders.specs.Inner.{EndsWith, Good, FitsIn, NextIs, SightedIs, scanned, line_at, line_count, axis, axis_most};
+ghost use Rattle.finders.specs.Inner.{EndsWith, Good, FitsIn, NextIs, SightedIs, line_at, line_len, line_count, scanned, axis, axis_most};
 
 use crate::Finders;
-use binary::line::run_on;
+use binary::line::Line;
+use binary::picture::BitPicture;
 use confirm::confirm_hit;
 use lcr_core::Refusal;
-
-// A line to scan: row or column `number`, its pixels `start`, `start + stride` and so on, `len` of them.
-#[derive(Clone, Copy)]
-pub struct Line {
-    pub columns: bool,
-    pub number: u16,
-    pub start: u32,
-    pub stride: u32,
-    pub len: u16,
-}
+use transform::Point;
 
 // The last three runs of a line before pixel `at`, the last a dark one.
 #[derive(Clone, Copy)]
@@ -39,26 +31,25 @@ pub struct NextHit {
     pub after: Window,
 }
 
-// A confirmed hit's x, y and module, and the window after it.
+// A confirmed hit's point and module, and the window after it.
 #[derive(Clone, Copy)]
 pub struct NextSighting {
-    pub x: f32,
-    pub y: f32,
+    pub point: Point,
     pub module: f32,
     pub after: Window,
 }
 
 // The first hit of the line after a window.
-fn next_hit(bits: &[u8], start: u32, stride: u32, len: u16, window: Window) -> Option<NextHit>
-    requires { FitsIn len window }
-    ensures { NextIs (pixel bits.now start stride) len window result }
+fn next_hit(line: Line<'_>, window: Window) -> Option<NextHit>
+    requires { FitsIn line.len window }
+    ensures { let l = line.entry in NextIs (pixel l.bits.now l.start l.stride) l.len window result }
 {
     // A turn is two runs long, so no range counts it.
     let mut w = window;
-    while w.at < len {
-        let light = run_on(bits, start, stride, w.at, len - w.at, false);
+    while w.at < line.len {
+        let light = line.run_on(w.at, line.len - w.at, false);
         let next = w.at + light;
-        let dark = run_on(bits, start, stride, next, len - next, true);
+        let dark = line.run_on(next, line.len - next, true);
         let end = next + dark;
         let after = Window {
             c: w.e,
@@ -79,32 +70,34 @@ fn next_hit(bits: &[u8], start: u32, stride: u32, len: u16, window: Window) -> O
     None
 }
 
-// The first confirmed hit of the line after a window.
+// Row or column `number`. The three go one by one here and below: a struct of them would hold once more what the line that they give holds.
+fn line_at(picture: BitPicture<'_>, columns: bool, number: u16) -> Line<'_>
+    ensures pixels { let p = picture.entry in pixel result.bits.now result.start result.stride ≡ line_at p.bits.now p.width columns number }
+    ensures len { let p = picture.entry in result.len ≡ line_len p.width p.height columns }
+{
+    if columns {
+        return picture.column(number);
+    }
+    picture.row(number)
+}
+
+// The first confirmed hit of row or column `number` after a window.
+#[tactic(auto, using(crate::proofs::Axes::sighted_first, crate::proofs::Axes::sighted_later), unfolding(lists::specs::Lists::flat_map))]
 fn next_sighting(
-    bits: &[u8],
-    width: u16,
-    height: u16,
-    line: Line,
+    picture: BitPicture<'_>,
+    columns: bool,
+    number: u16,
     window: Window,
 ) -> Option<NextSighting>
-    requires { FitsIn line.len window }
-    ensures { SightedIs bits.now width height line window result }
+    requires { FitsIn (line_len picture.width picture.height columns) window }
+    ensures { let p = picture.entry in SightedIs p.bits.now p.width p.height columns number window result }
 {
+    let line = line_at(picture, columns, number);
     let mut w = window;
-    while let Some(hit) = next_hit(bits, line.start, line.stride, line.len, w) {
-        let confirmed = confirm_hit(
-            bits,
-            width,
-            height,
-            line.columns,
-            line.number,
-            hit.centre,
-            hit.module,
-        );
-        if let Some(p) = confirmed {
+    while let Some(hit) = next_hit(line, w) {
+        if let Some(point) = confirm_hit(picture, columns, number, hit.centre, hit.module) {
             return Some(NextSighting {
-                x: p.x,
-                y: p.y,
+                point,
                 module: hit.module,
                 after: hit.after,
             });
@@ -114,78 +107,50 @@ fn next_sighting(
     None
 }
 
-// What the confirmed hits of a line add to the finders; refusal 6 where a place is missing.
+// What the confirmed hits of row or column `number` add to the finders; refusal 6 where a place is missing.
 fn scan_line(
-    bits: &[u8],
-    width: u16,
-    height: u16,
-    line: Line,
+    picture: BitPicture<'_>,
+    columns: bool,
+    number: u16,
     t: &mut Finders,
 ) -> Result<(), Refusal>
-    requires len_le_max_side { line.len ≤ max_side }
+    requires sides { Sides picture.width picture.height }
     requires good { Good t.old (2 ^ 32 - 2 - max_side) }
-    ensures { EndsWith (scanned bits.now width height (held (held_in t.old)) line) result t.new }
+    ensures { let p = picture.entry in EndsWith (scanned p.bits.now p.width p.height columns (held (held_in t.old)) number) result t.new }
 {
-    let first = run_on(bits, line.start, line.stride, 0, line.len, true);
+    let line = line_at(picture, columns, number);
+    let first = line.run_on(0, line.len, true);
     let mut w = Window {
         c: 0,
         d: 0,
         e: first,
         at: first,
     };
-    while let Some(s) = next_sighting(bits, width, height, line, w) {
-        t.merge(s.x, s.y, s.module)?;
+    while let Some(s) = next_sighting(picture, columns, number, w) {
+        t.merge(s.point, s.module)?;
         w = s.after;
     }
     Ok(())
 }
 
-fn line_count(width: u16, height: u16, columns: bool) -> u16
-    ensures { result ≡ line_count width height columns }
+fn line_count(picture: BitPicture<'_>, columns: bool) -> u16
+    ensures { let p = picture.entry in result ≡ line_count p.width p.height columns }
 {
     if columns {
-        return width;
+        return picture.width;
     }
-    height
-}
-
-fn line_at(width: u16, height: u16, columns: bool, number: u16) -> Line
-    ensures { result ≡ line_at width height columns number }
-{
-    if columns {
-        return Line {
-            columns: columns,
-            number: number,
-            start: number as u32,
-            stride: width as u32,
-            len: height,
-        };
-    }
-    Line {
-        columns: columns,
-        number: number,
-        start: number as u32 * width as u32,
-        stride: 1,
-        len: width,
-    }
+    picture.height
 }
 
 // Every second row, or every second column, from 0 on.
-pub fn scan_axis(
-    bits: &[u8],
-    width: u16,
-    height: u16,
-    columns: bool,
-    t: &mut Finders,
-) -> Result<(), Refusal>
-    requires sides { Sides width height }
+pub fn scan_axis(picture: BitPicture<'_>, columns: bool, t: &mut Finders) -> Result<(), Refusal>
+    requires sides { Sides picture.width picture.height }
     requires good { Good t.old axis_most }
-    ensures { EndsWith (axis bits.now width height columns (held (held_in t.old))) result t.new }
+    ensures { let p = picture.entry in EndsWith (axis p.bits.now p.width p.height columns (held (held_in t.old))) result t.new }
 {
-    let half = line_count(width, height, columns).div_ceil(2);
+    let half = line_count(picture, columns).div_ceil(2);
     for k in 0..half {
-        let line = line_at(width, height, columns, 2 * k);
-        scan_line(bits, width, height, line, t)?;
+        scan_line(picture, columns, 2 * k, t)?;
     }
     Ok(())
 }

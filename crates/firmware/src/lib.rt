@@ -1,4 +1,4 @@
-// The detections as bytes for the unit's firmware.
+// The detections as bytes for the unit's firmware. Slice and place go one by one, since the places are document 01's.
 #![tactic(auto)]
 
 ghost use Rattle.std.specs.Prelude.{◌≡◌, ◌^◌, ◌<◌};
@@ -14,44 +14,45 @@ use transform::{Point, Transform};
 // The bytes that the detections take.
 pub const SIZE: usize = 367;
 
-fn put_finder(out: &mut [u8], at: u32, f: Finder)
-    requires { at < 2 ^ 16 }
+// x, y, module and confirmations.
+pub fn put_finder(out: &mut [u8], at: u16, f: Finder)
     ensures { out.new ≡ put (finder_bytes f) at out.old }
 {
-    put::<u32>(out, at, f.x.bits());
-    put::<u32>(out, at + 4, f.y.bits());
-    put::<u32>(out, at + 8, f.module.bits());
-    put::<u32>(out, at + 12, f.confirmations);
+    let i = at as u32;
+    put::<u32>(out, i, f.x.bits());
+    put::<u32>(out, i + 4, f.y.bits());
+    put::<u32>(out, i + 8, f.module.bits());
+    put::<u32>(out, i + 12, f.confirmations);
 }
 
-fn put_marker(out: &mut [u8], at: u32, m: Option<Point>)
-    requires { at < 2 ^ 16 }
+fn put_marker(out: &mut [u8], at: u16, m: Option<Point>)
     ensures { out.new ≡ put (marker_bytes m) at out.old }
 {
+    let i = at as u32;
     match m {
         Some(p) => {
-            put::<u8>(out, at, 1);
-            put::<u32>(out, at + 1, p.x.bits());
-            put::<u32>(out, at + 5, p.y.bits());
+            put::<u8>(out, i, 1);
+            put::<u32>(out, i + 1, p.x.bits());
+            put::<u32>(out, i + 5, p.y.bits());
         }
         None => {
-            put::<u8>(out, at, 0);
-            put::<u32>(out, at + 1, 0);
-            put::<u32>(out, at + 5, 0);
+            put::<u8>(out, i, 0);
+            put::<u32>(out, i + 1, 0);
+            put::<u32>(out, i + 5, 0);
         }
     }
 }
 
-fn put_transform(out: &mut [u8], at: u32, t: Transform)
-    requires { at < 2 ^ 16 }
+// The eight numbers.
+pub fn put_transform(out: &mut [u8], at: u16, t: Transform)
     ensures { out.new ≡ put (transform_bytes t) at out.old }
 {
     for (k, x) in t.m.iter().enumerate() {
-        put::<u64>(out, at + 8 * k as u32, x.bits());
+        put::<u64>(out, at as u32 + 8 * k as u32, x.bits());
     }
 }
 
-fn put_detection(out: &mut [u8], at: u32, d: Detection)
+fn put_detection(out: &mut [u8], at: u16, d: Detection)
     requires { at < 2 ^ 15 }
     ensures { out.new ≡ put (detection_bytes d) at out.old }
 {
@@ -59,7 +60,7 @@ fn put_detection(out: &mut [u8], at: u32, d: Detection)
     put_finder(out, at, c.tl);
     put_finder(out, at + 16, c.tr);
     put_finder(out, at + 32, c.bl);
-    put::<u8>(out, at + 48, d.version.get());
+    put::<u8>(out, at as u32 + 48, d.version.get());
     let m = d.marker;
     put_marker(out, at + 49, m);
     let t = d.transform;
@@ -72,6 +73,6 @@ pub fn put_detections(out: &mut [u8], t: Detections)
 {
     put::<u8>(out, 0, (t.count % 256) as u8);
     for (k, d) in t.at.iter().enumerate() {
-        put_detection(out, 1 + 122 * k as u32, *d);
+        put_detection(out, 1 + 122 * k as u16, *d);
     }
 }

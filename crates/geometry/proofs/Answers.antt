@@ -1,6 +1,6 @@
 -- The answers put together, from the values that the calls gave. Assumes nothing.
 use Rattle.std.specs.Prelude.{Some, None, Option, MatchOption, Ok, Err}
-use mathlib.Core.Path.{◌≡◌, refl, sym, ap, ◌∙◌}
+use mathlib.Core.Path.{◌≡◌, refl}
 use mathlib.Core.Bool.{Bool, true, false, cond, ◌||◌}
 use Prim.Native.Nat.{ℕ, ◌+◌, ◌≤◌, ◌<◌, min}
 use native.Mathlib.Omega.{arith}

@@ -83,7 +83,7 @@ fn longest(x: f32, y: f32, z: f32) -> bool
     x >= y && x >= z
 }
 
-// The corner is the finder opposite the longest side.
+// The corner is the finder opposite the longest side. Three finders whose order is not known yet are three arguments; once it is, they are `Corners`.
 pub fn order_finders(a: Finder, b: Finder, c: Finder) -> Corners
     ensures { result ≡ order_of a b c }
 {

@@ -1,5 +1,6 @@
 -- Laws of gray conversion. Assumes nothing.
-use Rattle.std.specs.Prelude.{Option, Some, None}
+use Rattle.std.specs.Prelude.{Option, Some, None, Ok, Err}
+use Rattle.std.specs.Option.{ok_or}
 use mathlib.Core.Path.{◌≡◌, refl, sym}
 use mathlib.Core.Bool.{Bool, cond, true, false}
 use mathlib.Core.List.{List}
@@ -13,12 +14,25 @@ use lib.Dec.{eqb, ltb}
 use lib.Arith.{digits_div, digits_mod}
 use borrow.Author.Tests.{eqb-true, ne_eqb, ltb-false}
 use Rattle.lists.proofs.Numbers.{row_within}
+use Rattle.lcr_core.specs.declared.Refusal.{Refusal}
+use Rattle.lcr_core.specs.declared.Refusal.TheVariants.{UnknownFormat}
+use Rattle.lists.proofs.Tabulate.{filled_none, filled_step, filled_whole}
 use Rattle.lcr_core.specs.Outcome.{zero_side, large_side}
-use Rattle.lcr_core.proofs.Checks.{or_false, first_passes, sides_pass}
+use Rattle.lcr_core.proofs.Checks.{or_false, first_passes, sides_pass, unless_error, unless_done}
 use Rattle.image.specs.Gray.{channels_of, of_byte, is_nothing, unknown_format, short_picture, gray_refusal, gray_rule, gray_of, gray_at}
 use Rattle.image.specs.Passed.{KnownFormat, GrayPassed}
 use Rattle.image.specs.declared.PixelFormat.{PixelFormat}
 use Rattle.image.specs.declared.PixelFormat.TheVariants.{Gray8, Rgb8, Rgba8}
+
+-- the format that is read of a byte is the one whose byte it is
+pub format_read : (o : Option PixelFormat) (f : PixelFormat) → Ok f ≡ ok_or o UnknownFormat → o ≡ Some f
+format_read (Some g) f e = cc
+format_read None f e = cc
+
+-- and what is refused is an unknown one
+pub format_refused : (o : Option PixelFormat) (e : Refusal) → Err e ≡ ok_or o UnknownFormat → (e ≡ UnknownFormat) × (is_nothing o ≡ true)
+format_refused (Some f) e k = cc
+format_refused None e k = (cc, refl)
 
 -- a format that was found has its byte
 pub found_byte : (n : ℕ) (f : PixelFormat) → of_byte n ≡ Some f → channels_of f ≡ n
@@ -97,3 +111,9 @@ unfolding gray_at
 gray_row-at p w s f y x k h =
     simp (digits_div y h, digits_mod y h)
     (gray_part p f (y * s) (y * s + w * f - y * s) (x * f) k (omega (arith, row_within x w f h)))
+
+-- what a row goes by that is filled pixel by pixel
+pub ruleset row_steps = (filled_none, filled_step, filled_whole)
+
+-- what an answer goes by that was checked
+pub ruleset answer_steps = (passes, unless_error, unless_done)

@@ -16,7 +16,7 @@ use Rattle.binary.proofs.Bits.{bit_small, word_bound}
 use Rattle.binary.proofs.Words.{word_same}
 use Rattle.binary.specs.Refusal.{short_bits}
 use Rattle.lcr_core.specs.Outcome.{zero_side, large_side}
-use Rattle.lcr_core.proofs.Checks.{first_passes, sides_pass}
+use Rattle.lcr_core.proofs.Checks.{first_passes, sides_pass, unless_error, unless_done}
 use Rattle.image.specs.Passed.{DenoisedPassed}
 use Rattle.image.specs.Denoise.{denoised_refusal, inside, votes, denoised_at}
 use Rattle.image.specs.Window.{behind, chosen_at, pad_of, up_of, mid_of, down_of, stretch, Held, voted_at}
@@ -138,3 +138,6 @@ passes len w h room e =
       bytes = ltb-false len (bytes_of (w * h)) p3.0;
       fits = ltb-false room (bytes_of (w * h)) p4.0;
     }
+
+-- what an answer goes by that was checked
+pub ruleset answer_steps = (passes, unless_error, unless_done)

@@ -1,5 +1,5 @@
 -- Laws of the nine-bit window, and of eight pixels at a time. Assumes nothing.
-use mathlib.Core.Path.{◌≡◌, ap, ◌∙◌}
+use mathlib.Core.Path.{◌≡◌, refl, ap, ◌∙◌}
 use mathlib.Core.Bool.{Bool, true, false, cond}
 use mathlib.Core.List.{List}
 use Prim.Native.Nat.{ℕ, ◌+◌, ◌-◌, ◌*◌, ◌/◌, ◌%◌, ◌^◌, ◌≤◌, ◌<◌}
@@ -38,6 +38,8 @@ module _ (pad : ℕ) (b : List ℕ) where
   pub inner_byte : (i : ℕ) → pad ≤ i → get_or b (i - pad) 0 < 256 → byte_of (behind pad b) i ≡ get_or b (i - pad) 0
   inner_byte i h l = later_byte i h ∙ byte_word b (i - pad) l
 
+pub ruleset byte_steps = (front_byte, past_byte, inner_byte)
+
 -- ---- bytes in a row
 module _ (p : ℕ → Bool) (i : ℕ) where
   pub byte_small : byte_of p i < 256
@@ -49,10 +51,11 @@ module _ (p : ℕ → Bool) (i : ℕ) where
   pub three_bytes_lem : word p (i * 8) 24 ≡ word p (i * 8) 16 * 256 + byte_of p (i + 2)
   three_bytes_lem = let e : i * 8 + 16 ≡ (i + 2) * 8 = omega arith in word-append p (i * 8) 16 8 ∙ rw e
 
-  pub last_two : word p (i * 8) 24 % 65536 ≡ word p ((i + 1) * 8) 16
-  last_two =
-      let e : i * 8 + 8 ≡ (i + 1) * 8 = omega arith in
-      rw (word-append p (i * 8) 8 16, e) (low (word p (i * 8) 8) 16 (word_bound p ((i + 1) * 8) 16))
+  -- the last two of three bytes
+  pub last_two : (two last : ℕ) → two ≡ word p (i * 8) 16 → last ≡ byte_of p (i + 2) → (two * 256 + last) % 65536 ≡ word p ((i + 1) * 8) 16
+  last_two two last e q =
+      let next : i * 8 + 8 ≡ (i + 1) * 8 = omega arith in
+      rw (e, q, ← three_bytes_lem, word-append p (i * 8) 8 16, next) (low (word p (i * 8) 8) 16 (word_bound p ((i + 1) * 8) 16))
 
   -- three pixels of three bytes, of which those after the tenth from pixel f on are cut off
   pub three_pixels : (f k : ℕ) → f < 8 → k < 8 → word p (i * 8) 24 / 2 ^ (14 - f) / 2 ^ (7 - k) % 8 ≡ word p (i * 8 + f + k) 3
@@ -74,6 +77,8 @@ module _ (b : List ℕ) (w pad first f bytes : ℕ) (p : pad ≡ pad_of w) (q : 
 
   pub have_two : (j : ℕ) → bytes % 65536 ≡ stretch b w j 16 f → bytes % 65536 ≡ word (behind pad b) ((j + first / 8) * 8) 16
   have_two j e = rw (p, q) e
+
+pub ruleset next_steps = (read_three, next_two, have_two)
 
 -- ---- eight pixels, voted or copied
 
@@ -111,6 +116,11 @@ module _ (voted copied w h n : ℕ) where
   chosen_all small all = word_digits (chosen_at voted copied w h n) 0 8 voted small (λ i r e.
       let place : 7 - i ≡ r = omega arith in
       rw (zero-add i, all i (omega arith), place))
+
+  -- no pixel yet
+  pub chosen_none : 0 ≡ word (chosen_at voted copied w h n) 0 0
+  unfolding word
+  chosen_none = refl
 
   -- one pixel more
   pub chosen_more : (i byte from : ℕ) → i < 8 → byte ≡ word (chosen_at voted copied w h n) 0 i → from ≡ cond (inside w h ((n + i) % w) ((n + i) / w)) voted copied

@@ -7,15 +7,16 @@ ghost use Rattle.binary.specs.Binary.{bit, word, byte_of, bytes_of};
 ghost use Rattle.image.specs.Denoise.{denoised_refusal, inside, denoised_at, denoised_written};
 ghost use Rattle.image.specs.Window.{behind, majority_of, chosen_at, pad_of, up_of, mid_of, down_of, Ready, Held, voted_at};
 
-use binary::refusal::{check_bits, short_bits};
+use binary::picture::LentBits;
+use binary::refusal::short_bits;
 use lcr_core::Refusal;
 
-// What denoising refuses of `len` bytes of bits, with `room` bytes for the result.
-pub fn check_denoised(len: usize, width: u32, height: u32, room: usize) -> Result<(), Refusal>
-    ensures { number_of result ≡ denoised_refusal len width height room }
+// What denoising refuses, with `room` bytes for the result.
+pub fn check_denoised(bits: LentBits<'_>, room: usize) -> Result<(), Refusal>
+    ensures { let p = bits.entry in number_of result ≡ denoised_refusal (length p.bits.now) p.width p.height room }
 {
-    check_bits(len, width, height)?;
-    if short_bits(room, width, height) {
+    bits.checked()?;
+    if short_bits(room, bits.width, bits.height) {
         return Err(Refusal::ShortOutput);
     }
     Ok(())
@@ -29,20 +30,18 @@ fn ten_pixels(three: u32, first: usize) -> u32
 }
 
 // 1 where five or more are dark of the nine pixels that have `right` others to their right.
+#[tactic(auto, unfolding(binary::specs::Binary::bit))]
 fn majority(above: u32, row: u32, below: u32, right: u32) -> u8
     requires { right ≤ 7 }
     ensures bit { result ≡ bit (majority_of above row below right) }
     ensures small { result ≤ 1 }
 {
     let window = (above >> right) % 8 * 64 + (row >> right) % 8 * 8 + (below >> right) % 8;
-    if 5 <= u16::count_ones(window as u16) {
-        1
-    } else {
-        0
-    }
+    u8::from(5 <= u16::count_ones(window as u16))
 }
 
 // The majorities about eight pixels, from ten of each row.
+#[tactic(auto, unfolding(binary::specs::Binary::word))]
 fn majorities(above: u32, row: u32, below: u32) -> u8
     ensures { result ≡ word (λ i. majority_of above row below (7 - i)) 0 8 }
 {
@@ -66,7 +65,7 @@ struct Rows {
 
 // A picture that passed the checks.
 #[derive(Clone, Copy)]
-struct Picture<'a> {
+struct WholeBits<'a> {
     bits: &'a [u8],
     width: u32,
     height: u32,
@@ -74,7 +73,7 @@ struct Picture<'a> {
     ghost bytes: { bytes_of (width * height) ≤ length bits.now },
 }
 
-impl Picture<'_> {
+impl WholeBits<'_> {
     // So many light bytes stand in front of it: behind them every pixel has a row above.
     fn pad(self) -> usize
         ensures { result ≡ pad_of self.entry.width }
@@ -104,6 +103,7 @@ impl Picture<'_> {
     }
 
     // Byte i of the picture behind the light bytes; after its last byte all is light again.
+    #[tactic(auto, using(crate::proofs::Windows::byte_steps))]
     fn byte(self, i: usize) -> u32
         ensures { result ≡ byte_of (behind (pad_of self.entry.width) self.entry.bits.now) i }
     {
@@ -118,6 +118,7 @@ impl Picture<'_> {
     }
 
     // Bytes i and i + 1 of it.
+    #[tactic(auto, using(crate::proofs::Windows::byte_small, crate::proofs::Windows::two_bytes))]
     fn two_bytes(self, i: usize) -> u32
         requires { i < 2 ^ 32 }
         ensures { result ≡ word (behind (pad_of self.entry.width) self.entry.bits.now) (i * 8) 16 }
@@ -126,6 +127,7 @@ impl Picture<'_> {
     }
 
     // Bytes i to i + 2 of it, of which the first two are at hand.
+    #[tactic(auto, using(crate::proofs::Windows::byte_small, crate::proofs::Windows::three_bytes_lem, crate::proofs::Windows::last_two))]
     fn three_bytes(self, i: usize, two: u32) -> u32
         requires { (i < 2 ^ 32) × (two % 65536 ≡ word (behind (pad_of self.width) self.bits.now) (i * 8) 16) }
         ensures three { result ≡ word (behind (pad_of self.entry.width) self.entry.bits.now) (i * 8) 24 }
@@ -135,6 +137,7 @@ impl Picture<'_> {
     }
 
     // Two bytes of each row, before the first eight pixels.
+    #[tactic(auto, using(crate::proofs::Windows::read_two))]
     fn first_rows(self) -> Rows
         ensures { Ready self.entry.bits.now self.entry.width 0 result }
     {
@@ -145,6 +148,7 @@ impl Picture<'_> {
     }
 
     // Three bytes of each row, for the pixels of byte j.
+    #[tactic(auto, using(crate::proofs::Windows::next_steps))]
     fn next_rows(self, j: usize, rows: Rows) -> Rows
         requires { (j ≤ 16777216) × Ready self.bits.now self.width j rows }
         ensures held { Held self.entry.bits.now self.entry.width j result }
@@ -167,6 +171,7 @@ impl Picture<'_> {
     }
 
     // Whether the pixel at x, y has a neighbour on each side. One test joined by `&&` makes denoising run 6 % more instructions.
+    #[tactic(auto, unfolding(crate::specs::Denoise::inside))]
     fn is_inside(self, x: u32, y: u32) -> bool
         requires { (x < self.width) × (y < 2 ^ 31) }
         ensures { result ≡ inside self.entry.width self.entry.height x y }
@@ -184,6 +189,7 @@ impl Picture<'_> {
     }
 
     // Whether eight pixels from number n on all have.
+    #[tactic(auto, using(crate::proofs::Windows::all_inside_lem))]
     fn all_inside(self, n: u32) -> bool
         requires { n ≤ 16777216 }
         ensures { let w = self.entry.width in result ≡ true → (i : ℕ) → i < 8 → inside w self.entry.height ((n + i) % w) ((n + i) / w) ≡ true }
@@ -194,6 +200,7 @@ impl Picture<'_> {
     }
 
     // Of eight pixels from number n on, those inside as voted and the others as copied.
+    #[tactic(auto, using(crate::proofs::Windows::chosen_none, crate::proofs::Windows::chosen_more))]
     fn chosen_each(self, voted: u8, copied: u8, n: u32) -> u8
         requires { n ≤ 16777216 }
         ensures { result ≡ word (chosen_at voted copied self.entry.width self.entry.height n) 0 8 }
@@ -211,6 +218,7 @@ impl Picture<'_> {
     }
 
     // The same, at once where all are inside.
+    #[tactic(auto, using(crate::proofs::Windows::chosen_all))]
     fn chosen(self, voted: u8, copied: u8, n: u32) -> u8
         requires { n ≤ 16777216 }
         ensures { result ≡ word (chosen_at voted copied self.entry.width self.entry.height n) 0 8 }
@@ -222,6 +230,7 @@ impl Picture<'_> {
     }
 
     // All its bytes, denoised in one pass.
+    #[tactic(auto, using(lists::proofs::Numbers::mul_bound, lists::proofs::Tabulate::filled_none))]
     fn denoise(self, out: &mut [u8])
         requires { bytes_of (self.width * self.height) ≤ length out.old }
         ensures { let p = self.entry in out.new ≡ filled (bytes_of (p.width * p.height)) (byte_of (denoised_at p.bits.now p.width p.height)) out.old }
@@ -236,17 +245,18 @@ impl Picture<'_> {
     }
 }
 
-// Denoises a picture of width × height pixels from bits into the first bytes of out: each pixel inside takes the colour of most of the nine about it.
-pub fn denoised(bits: &[u8], width: u32, height: u32, out: &mut [u8]) -> Result<(), Refusal>
-    ensures number { number_of result ≡ denoised_refusal (length bits.now) width height (length out.old) }
-    ensures written { out.new ≡ denoised_written bits.now width height out.old }
+// Denoises a picture of width × height pixels into the first bytes of out: each pixel inside takes the colour of most of the nine about it.
+#[tactic(auto, using(crate::proofs::Votes::answer_steps), unfolding(crate::specs::Denoise::denoised_written))]
+pub fn denoised(bits: LentBits<'_>, out: &mut [u8]) -> Result<(), Refusal>
+    ensures number { let p = bits.entry in number_of result ≡ denoised_refusal (length p.bits.now) p.width p.height (length out.old) }
+    ensures written { let p = bits.entry in out.new ≡ denoised_written p.bits.now p.width p.height out.old }
 {
-    check_denoised(bits.len(), width, height, out.len())?;
-    let picture = Picture {
-        bits,
-        width,
-        height,
+    check_denoised(bits, out.len())?;
+    let whole = WholeBits {
+        bits: bits.bits,
+        width: bits.width,
+        height: bits.height,
     };
-    picture.denoise(out);
+    whole.denoise(out);
     Ok(())
 }

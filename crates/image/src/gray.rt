@@ -8,52 +8,48 @@ ghost use Rattle.image.specs.Passed.{KnownFormat, GrayPassed};
 use super::PixelFormat;
 use lcr_core::{Refusal, check_sides};
 
-// Whether the stride or the picture's bytes are too few.
-fn short_picture(len: usize, width: u32, height: u32, stride: u32, channels: usize) -> bool
-    requires { (0 < height) × (height ≤ 4096) × (channels ≤ 255) }
-    ensures { result ≡ short_picture len width height stride channels }
-{
-    let row = width as usize * channels;
-    (stride as usize) < row || len < (height as usize - 1) * stride as usize + row
+// Pixels that are lent as a picture of width × height, in rows of stride bytes, whether they are one or not.
+#[derive(Clone, Copy)]
+pub struct LentPixels<'a> {
+    pub data: &'a [u8],
+    pub width: u32,
+    pub height: u32,
+    pub stride: u32,
+    pub format: u8,
 }
 
-// The format of a picture of `len` bytes, or what gray conversion refuses of it, with `room` bytes for the result.
-fn checked_format(
-    len: usize,
-    width: u32,
-    height: u32,
-    stride: u32,
-    format: u8,
-    room: usize,
-) -> Result<PixelFormat, Refusal>
-    ensures number { number_of result ≡ gray_refusal len width height stride format room }
-    ensures format { IfOk result (λ known. channels_of known ≡ format) }
+// Whether the stride or the picture's bytes are too few.
+#[tactic(auto, unfolding(crate::specs::Gray::short_picture))]
+fn short_picture(pixels: LentPixels<'_>, channels: usize) -> bool
+    requires { (0 < pixels.height) × (pixels.height ≤ 4096) × (channels ≤ 255) }
+    ensures { let p = pixels.entry in result ≡ short_picture (length p.«data».now) p.width p.height p.stride channels }
 {
-    check_sides(width, height)?;
-    let Some(known) = PixelFormat::from_byte(format) else {
-        return Err(Refusal::UnknownFormat);
-    };
-    if short_picture(len, width, height, stride, known.channels()) {
+    let stride = pixels.stride as usize;
+    let row = pixels.width as usize * channels;
+    stride < row || pixels.data.len() < (pixels.height as usize - 1) * stride + row
+}
+
+// The format of a picture, or what gray conversion refuses of it, with `room` bytes for the result.
+fn checked_format(pixels: LentPixels<'_>, room: usize) -> Result<PixelFormat, Refusal>
+    ensures number { let p = pixels.entry in number_of result ≡ gray_refusal (length p.«data».now) p.width p.height p.stride p.format room }
+    ensures format { IfOk result (λ known. channels_of known ≡ pixels.entry.format) }
+{
+    check_sides(pixels.width, pixels.height)?;
+    let known = PixelFormat::try_from(pixels.format)?;
+    if short_picture(pixels, known.channels()) {
         return Err(Refusal::ShortPicture);
     }
-    if room < width as usize * height as usize {
+    if room < pixels.width as usize * pixels.height as usize {
         return Err(Refusal::ShortOutput);
     }
     Ok(known)
 }
 
-// What gray conversion refuses of `len` bytes, with `room` bytes for the result.
-pub fn check_gray(
-    len: usize,
-    width: u32,
-    height: u32,
-    stride: u32,
-    format: u8,
-    room: usize,
-) -> Result<(), Refusal>
-    ensures { number_of result ≡ gray_refusal len width height stride format room }
+// What gray conversion refuses, with `room` bytes for the result.
+pub fn check_gray(pixels: LentPixels<'_>, room: usize) -> Result<(), Refusal>
+    ensures { let p = pixels.entry in number_of result ≡ gray_refusal (length p.«data».now) p.width p.height p.stride p.format room }
 {
-    checked_format(len, width, height, stride, format, room)?;
+    checked_format(pixels, room)?;
     Ok(())
 }
 
@@ -65,6 +61,7 @@ fn luma(r: u8, g: u8, b: u8) -> u8
 }
 
 // The gray value of a pixel of STEP bytes, the first of which stands at `at`: a gray pixel keeps its value.
+#[tactic(auto, using(crate::proofs::GrayLaws::gray_colour), unfolding(crate::specs::Gray::gray_of))]
 fn gray_pixel<const STEP: usize>(src: &[u8], at: usize) -> u8
     requires { KnownFormat STEP × (at + STEP ≤ length src.now) }
     ensures { result ≡ gray_of src.now STEP at }
@@ -77,6 +74,7 @@ fn gray_pixel<const STEP: usize>(src: &[u8], at: usize) -> u8
 }
 
 // A row of pixels of STEP bytes. Gray pixels are copied here too: `copy_from_slice` takes 1.1 to 1.3 times as long for rows of 640 to 4,096 bytes.
+#[tactic(auto, using(crate::proofs::GrayLaws::row_steps))]
 fn row_of<const STEP: usize>(src: &[u8], out: &mut [u8])
     requires { KnownFormat STEP × (length src.now ≡ length out.old * STEP) }
     ensures { out.new ≡ tabulate (length out.old) (λ x. gray_of src.now STEP (x * STEP)) }
@@ -99,10 +97,15 @@ fn gray_row(src: &[u8], format: PixelFormat, out: &mut [u8])
 }
 
 // All rows of a picture that passed the checks.
-fn gray_rows(data: &[u8], w: usize, h: usize, stride: usize, format: PixelFormat, gray: &mut [u8])
-    requires { GrayPassed (length «data».now) w h stride (channels_of format) (length gray.old) }
-    ensures { gray.new ≡ filled (w * h) (gray_at «data».now w stride (channels_of format)) gray.old }
+#[tactic(auto, using(lists::proofs::Tabulate::filled_none))]
+fn gray_rows(pixels: LentPixels<'_>, format: PixelFormat, gray: &mut [u8])
+    requires { let p = pixels in GrayPassed (length p.«data».now) p.width p.height p.stride (channels_of format) (length gray.old) }
+    ensures { let p = pixels.entry in gray.new ≡ filled (p.width * p.height) (gray_at p.«data».now p.width p.stride (channels_of format)) gray.old }
 {
+    let data = pixels.data;
+    let w = pixels.width as usize;
+    let h = pixels.height as usize;
+    let stride = pixels.stride as usize;
     let row = w * format.channels();
     for y in 0..h {
         let from = y * stride;
@@ -112,25 +115,12 @@ fn gray_rows(data: &[u8], w: usize, h: usize, stride: usize, format: PixelFormat
 }
 
 // Gray conversion of a picture of width × height pixels in rows of stride bytes, into the first width × height bytes of gray.
-pub fn gray_buffer(
-    data: &[u8],
-    width: u32,
-    height: u32,
-    stride: u32,
-    format: u8,
-    gray: &mut [u8],
-) -> Result<(), Refusal>
-    ensures number { number_of result ≡ gray_refusal (length «data».now) width height stride format (length gray.old) }
-    ensures written { gray.new ≡ gray_written «data».now width height stride format gray.old }
+#[tactic(auto, using(crate::proofs::GrayLaws::answer_steps), unfolding(crate::specs::Gray::gray_written))]
+pub fn gray_buffer(pixels: LentPixels<'_>, gray: &mut [u8]) -> Result<(), Refusal>
+    ensures number { let p = pixels.entry in number_of result ≡ gray_refusal (length p.«data».now) p.width p.height p.stride p.format (length gray.old) }
+    ensures written { let p = pixels.entry in gray.new ≡ gray_written p.«data».now p.width p.height p.stride p.format gray.old }
 {
-    let known = checked_format(data.len(), width, height, stride, format, gray.len())?;
-    gray_rows(
-        data,
-        width as usize,
-        height as usize,
-        stride as usize,
-        known,
-        gray,
-    );
+    let known = checked_format(pixels, gray.len())?;
+    gray_rows(pixels, known, gray);
     Ok(())
 }

@@ -2,7 +2,11 @@
 #![tactic(auto)]
 
 ghost use Rattle.std.specs.Prelude.{◌≡◌};
+ghost use Rattle.std.specs.Option.{ok_or};
+ghost use Rattle.lcr_core.specs.declared.Refusal.TheVariants.{UnknownFormat};
 ghost use Rattle.image.specs.Gray.{channels_of, of_byte};
+
+use lcr_core::Refusal;
 
 pub mod denoise;
 pub mod gray;
@@ -16,7 +20,7 @@ pub enum PixelFormat {
 }
 
 impl PixelFormat {
-    // Bytes of a pixel, and the byte that stands for the format.
+    // Bytes of a pixel, and the byte that stands for the format. A method and not `From`: its name says which of the two is asked.
     pub fn channels(self) -> usize
         ensures { result ≡ channels_of self }
     {
@@ -26,16 +30,20 @@ impl PixelFormat {
             PixelFormat::Rgba8 => 4,
         }
     }
+}
 
-    // The format that a byte stands for, or none.
-    pub fn from_byte(byte: u8) -> Option<PixelFormat>
-        ensures { result ≡ of_byte byte }
-    {
+// The format that a byte stands for, or refusal 3.
+impl TryFrom<u8> for PixelFormat {
+    type Error = Refusal;
+
+    ghost try_from_gives = { λ byte result. result ≡ ok_or (of_byte byte) UnknownFormat };
+
+    fn try_from(byte: u8) -> Result<PixelFormat, Refusal> {
         match byte {
-            1 => Some(PixelFormat::Gray8),
-            3 => Some(PixelFormat::Rgb8),
-            4 => Some(PixelFormat::Rgba8),
-            _ => None,
+            1 => Ok(PixelFormat::Gray8),
+            3 => Ok(PixelFormat::Rgb8),
+            4 => Ok(PixelFormat::Rgba8),
+            _ => Err(Refusal::UnknownFormat),
         }
     }
 }

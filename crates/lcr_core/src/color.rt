@@ -16,7 +16,7 @@ impl Srgb8 {
         Srgb8 { r, g, b }
     }
 
-    // The colour 0xRRGGBB; higher bits are dropped.
+    // The colour 0xRRGGBB; higher bits are dropped. By the Rust's name and not as `From`, which would not show that bits are lost.
     pub fn from_hex(hex: u32) -> Srgb8
         ensures { result ≡ of_hex hex }
     {

@@ -39,11 +39,11 @@ impl From<Refusal> for u8 {
 }
 
 // The number of an answer, for C: 0 is done.
-pub fn number(answer: Result<(), Refusal>) -> u8
+pub fn number<T: Drop>(answer: Result<T, Refusal>) -> u8
     ensures { result ≡ number_of answer }
 {
     match answer {
-        Ok(()) => 0,
+        Ok(_) => 0,
         Err(refusal) => u8::from(refusal),
     }
 }

@@ -9,16 +9,17 @@ use lib.Dec.{ltb}
 use lib.ListN.{length, take, length-append}
 use borrow.Author.Tests.{lt-ltb, le-ltb, ltb-true, ltb-false}
 use Rattle.io.specs.Digits.{hex_digit_ascii, last_digits, IsDigitCount}
-use Rattle.listing_text.specs.Inner.{Wrote}
-use Rattle.listing_text.proofs.Writing.{wrote_as}
+use Rattle.listing_text.specs.declared.pieces.Text.{Text}
+use Rattle.listing_text.specs.Inner.{Adds}
+use Rattle.listing_text.proofs.Writing.{adds_as}
 use Rattle.listing_text.specs.Text.{hex_text, decimal_up_to, decimal_text}
 
-pub length_digits : (b k n : ℕ) → length (last_digits b k n) ≡ k
+length_digits : (b k n : ℕ) → length (last_digits b k n) ≡ k
 length_digits b zero n = refl
 length_digits b (suc k) n = omega (arith, length-append (last_digits b k (n / b)) (hex_digit_ascii (n % b) ∷ []), length_digits b k (n / b))
 
 -- ---- how many: as many as hold the number, and no fewer than are asked for
-pub at_most : (b m w n k : ℕ) → IsDigitCount b w n k → 1 < b → w ≤ m → n < b ^ m → k ≤ m
+at_most : (b m w n k : ℕ) → IsDigitCount b w n k → 1 < b → w ≤ m → n < b ^ m → k ≤ m
 at_most b m w n k f p l h = go (ltb m k) refl
   where
     go : (t : Bool) → ltb m k ≡ t → k ≤ m
@@ -50,7 +51,7 @@ decimal_step (suc k) (suc m) n h l g =
     let v : 10 ^ k ≤ n / 10 = omega (arith, s, big) in
     rw (le-ltb n 10 q) (ap (λ z. z ++ (hex_digit_ascii (n % 10) ∷ [])) (decimal_step k m (n / 10) (omega arith) u (λ _. v)))
 
-pub decimal_is : (n k : ℕ) → k ≤ 20 → IsDigitCount 10 1 n k → last_digits 10 k n ≡ decimal_text n
+decimal_is : (n k : ℕ) → k ≤ 20 → IsDigitCount 10 1 n k → last_digits 10 k n ≡ decimal_text n
 decimal_is n zero h f = absurd (omega (arith, f.0))
 decimal_is n (suc k) h f =
     let e : suc k - 1 ≡ k = omega arith in
@@ -58,26 +59,21 @@ decimal_is n (suc k) h f =
     decimal_step k 20 n (omega arith) f.1 g
 
 -- a number of 64 bits has twenty digits at most
-pub twenty_at_most : (n k : ℕ) → n < 2 ^ 64 → IsDigitCount 10 1 n k → k ≤ 20
+twenty_at_most : (n k : ℕ) → n < 2 ^ 64 → IsDigitCount 10 1 n k → k ≤ 20
 twenty_at_most n k h f = at_most 10 20 1 n k f (omega arith) (omega arith) (omega (arith, h))
 
 -- ---- the fields
-length_last : (xs : List ℕ) (e : ℕ) → length (xs ++ (e ∷ [])) ≡ length xs + 1
-length_last xs e = length-append xs (e ∷ [])
-
-pub decimal_wrote : (n k at end r : ℕ) (out a b : List ℕ) → n < 2 ^ 64 → IsDigitCount 10 1 n k → take k out ≡ last_digits 10 k n
-    → Wrote (take k out ++ (end ∷ [])) at a r b → Wrote (decimal_text n ++ (end ∷ [])) at a r b × (r ≤ at + 21)
-decimal_wrote n k at end r out a b h f e w =
+pub decimal_adds : (n k end : ℕ) (out : List ℕ) {a b : Text} → n < 2 ^ 64 → IsDigitCount 10 1 n k → take k out ≡ last_digits 10 k n
+    → Adds (take k out ++ (end ∷ [])) (length (take k out) + 1) a b → Adds (decimal_text n ++ (end ∷ [])) 21 a b
+decimal_adds n k end out h f e w =
     let t = twenty_at_most n k h f in
-    let d = decimal_is n k t f in
-    let m : length (take k out ++ (end ∷ [])) ≡ k + 1 = length_last (take k out) end ∙ ap (λ z. length z + 1) e ∙ ap (λ z. z + 1) (length_digits 10 k n) in
-    (wrote_as (take k out ++ (end ∷ [])) (decimal_text n ++ (end ∷ [])) at r a b (ap (λ z. z ++ (end ∷ [])) (e ∙ d)) w, omega (arith, t, m, w.1))
+    let x : length (take k out) ≡ k = ap length e ∙ length_digits 10 k n in
+    adds_as (ap (λ z. z ++ (end ∷ [])) (e ∙ decimal_is n k t f)) (omega (arith, t, x)) w
 
-pub hex_wrote : (w v n k at end r : ℕ) (out a b : List ℕ) → n ≡ v → n < 16 ^ w → IsDigitCount 16 w n k → take k out ≡ last_digits 16 k n
-    → Wrote (take k out ++ (end ∷ [])) at a r b → Wrote (hex_text w v ++ (end ∷ [])) at a r b × (r ≤ at + (w + 1))
+pub hex_adds : (w n k end : ℕ) (out : List ℕ) {a b : Text} → n < 16 ^ w → IsDigitCount 16 w n k → take k out ≡ last_digits 16 k n
+    → Adds (take k out ++ (end ∷ [])) (length (take k out) + 1) a b → Adds (hex_text w n ++ (end ∷ [])) (w + 1) a b
 unfolding hex_text
-hex_wrote w v n k at end r out a b q h f e p =
+hex_adds w n k end out h f e p =
     let t = few 16 w n k (omega arith) h f in
-    let d : last_digits 16 k n ≡ last_digits 16 w v = ap (λ z. last_digits 16 z n) t ∙ ap (last_digits 16 w) q in
-    let m : length (take k out ++ (end ∷ [])) ≡ k + 1 = length_last (take k out) end ∙ ap (λ z. length z + 1) e ∙ ap (λ z. z + 1) (length_digits 16 k n) in
-    (wrote_as (take k out ++ (end ∷ [])) (last_digits 16 w v ++ (end ∷ [])) at r a b (ap (λ z. z ++ (end ∷ [])) (e ∙ d)) p, omega (arith, t, m, p.1))
+    let x : length (take k out) ≡ k = ap length e ∙ length_digits 16 k n in
+    adds_as (ap (λ z. z ++ (end ∷ [])) (e ∙ ap (λ z. last_digits 16 z n) t)) (omega (arith, t, x)) p

@@ -2,9 +2,7 @@
 use Rattle.std.specs.Prelude.{Option, Some, None}
 use mathlib.Core.Path.{◌≡◌, refl, sym, ap, ◌∙◌}
 use mathlib.Core.List.{List, [], ◌∷◌, ◌++◌, append-nil, append_assoc}
-use mathlib.Core.Logic.{◌⊎◌, inl, inr}
-use Prim.Native.Nat.{ℕ, ◌+◌, ◌≤◌, ◌<◌, min}
-use Rattle.std.proofs.lemmas.Bool.{cases_lt}
+use Prim.Native.Nat.{ℕ, ◌+◌, ◌*◌, ◌≤◌, ◌<◌}
 use native.Mathlib.Numerals.{add-one}
 use native.Mathlib.Omega.{arith}
 use lib.ListN.{length, take, get_or, length-append}
@@ -14,57 +12,44 @@ use Rattle.lists.proofs.Folds.{flat_map-append, flat_map-take}
 use Rattle.transform.specs.declared.Point.{Point}
 use Rattle.geometry.specs.declared.Finder.{Finder}
 use Rattle.candidates.specs.declared.Detection.{Detection}
+use Rattle.listing_text.specs.declared.pieces.Text.{Text}
 use Rattle.listing_text.specs.Text.{space, line_feed, dash, decimal_text, single_text, line_text}
-use Rattle.listing_text.specs.Inner.{Wrote, with_space, spaced}
-use Rattle.listing_text.specs.Listing.{refused_word, refused_line, head_line, finder_line, marker_fields, number_fields, detection_line}
-use Rattle.listing_text.proofs.Writing.{wrote_then, wrote_as, wrote_none}
+use Rattle.listing_text.specs.Inner.{Adds, with_space, spaced}
+use Rattle.listing_text.specs.Listing.{refused_word, refused_line, head_line, finder_line, marker_fields, number_fields, detection_line, single_room, double_room, decimal_room, head_room, finder_room, detection_room}
+use Rattle.listing_text.proofs.Writing.{adds_then, adds_as, adds_none}
 
 -- ---- a line of few fields
-next : (f g : List ℕ) (rest : List (List ℕ)) (i j k : ℕ) (a b c : List ℕ) → Wrote (f ++ (space ∷ [])) i a j b → Wrote (line_text (g ∷ rest)) j b k c → Wrote (line_text (f ∷ g ∷ rest)) i a k c
+next : (f g : List ℕ) (rest : List (List ℕ)) {m n : ℕ} {a b c : Text} → Adds (with_space f) m a b → Adds (line_text (g ∷ rest)) n b c → Adds (line_text (f ∷ g ∷ rest)) (m + n) a c
 unfolding line_text
-next f g rest i j k a b c p q =
-    wrote_as ((f ++ (space ∷ [])) ++ line_text (g ∷ rest)) (f ++ (space ∷ line_text (g ∷ rest))) i k a c (append_snoc f space (line_text (g ∷ rest))) (wrote_then (f ++ (space ∷ [])) (line_text (g ∷ rest)) i j k a b c p q)
+next f g rest p q = adds_as (append_snoc f space (line_text (g ∷ rest))) (omega arith) (adds_then p q)
 
-last : (f : List ℕ) (i k : ℕ) (a c : List ℕ) → Wrote (f ++ (line_feed ∷ [])) i a k c → Wrote (line_text (f ∷ [])) i a k c
+last : (f : List ℕ) {m : ℕ} {a b : Text} → Adds (f ++ (line_feed ∷ [])) m a b → Adds (line_text (f ∷ [])) m a b
 unfolding line_text
-last f i k a c p = p
+last f p = p
 
-pub refused_wrote : (n j r : ℕ) (a b c : List ℕ) → Wrote (refused_word ++ (space ∷ [])) 0 a j b → Wrote (decimal_text n ++ (line_feed ∷ [])) j b r c → Wrote (refused_line n) 0 a r c
+pub refused_adds : (n : ℕ) {m : ℕ} {a b c : Text} → Adds (with_space refused_word) m a b → Adds (decimal_text n ++ (line_feed ∷ [])) decimal_room b c → Adds (refused_line n) (m + decimal_room) a c
 unfolding refused_line
-refused_wrote n j r a b c p q = next refused_word (decimal_text n) [] 0 j r a b c p (last (decimal_text n) j r b c q)
+refused_adds n p q = next _ _ _ p (last _ q)
 
-pub head_wrote : (w h n m j k l r : ℕ) (a b c d e : List ℕ) → Wrote (decimal_text w ++ (space ∷ [])) 0 a j b → Wrote (decimal_text h ++ (space ∷ [])) j b k c → Wrote (decimal_text n ++ (space ∷ [])) k c l d
-    → Wrote (decimal_text m ++ (line_feed ∷ [])) l d r e → Wrote (head_line w h n m) 0 a r e
+pub head_adds : (w h n m : ℕ) {a b c d e : Text} → Adds (with_space (decimal_text w)) decimal_room a b → Adds (with_space (decimal_text h)) decimal_room b c
+    → Adds (with_space (decimal_text n)) decimal_room c d → Adds (decimal_text m ++ (line_feed ∷ [])) decimal_room d e → Adds (head_line w h n m) head_room a e
 unfolding head_line
-head_wrote w h n m j k l r a b c d e p q s t =
-    let w3 = next (decimal_text n) (decimal_text m) [] k l r c d e s (last (decimal_text m) l r d e t) in
-    let w2 = next (decimal_text h) (decimal_text n) (decimal_text m ∷ []) j k r b c e q w3 in
-    next (decimal_text w) (decimal_text h) (decimal_text n ∷ decimal_text m ∷ []) 0 j r a b e p w2
+head_adds w h n m p q s t = next _ _ _ p (next _ _ _ q (next _ _ _ s (last _ t)))
 
-pub finder_wrote : (f : Finder) (i j k l r : ℕ) (a b c d e : List ℕ) → Wrote (single_text f.x ++ (space ∷ [])) i a j b → Wrote (single_text f.y ++ (space ∷ [])) j b k c
-    → Wrote (single_text f.«module» ++ (space ∷ [])) k c l d → Wrote (decimal_text f.confirmations ++ (line_feed ∷ [])) l d r e → Wrote (finder_line f) i a r e
+pub finder_adds : (f : Finder) {a b c d e : Text} → Adds (with_space (single_text f.x)) single_room a b → Adds (with_space (single_text f.y)) single_room b c
+    → Adds (with_space (single_text f.«module»)) single_room c d → Adds (decimal_text f.confirmations ++ (line_feed ∷ [])) decimal_room d e → Adds (finder_line f) finder_room a e
 unfolding finder_line
-finder_wrote f i j k l r a b c d e p q s t =
-    let x = single_text f.x in
-    let y = single_text f.y in
-    let m = single_text f.«module» in
-    let n = decimal_text f.confirmations in
-    let w3 = next m n [] k l r c d e s (last n l r d e t) in
-    let w2 = next y m (n ∷ []) j k r b c e q w3 in
-    next x y (m ∷ n ∷ []) i j r a b e p w2
+finder_adds f p q s t = next _ _ _ p (next _ _ _ q (next _ _ _ s (last _ t)))
 
 -- ---- the marker
-pub marker_wrote : (m : Option Point) (p : Point) (i j r : ℕ) (a b c : List ℕ) → m ≡ Some p → Wrote (single_text p.x ++ (space ∷ [])) i a j b → Wrote (single_text p.y ++ (space ∷ [])) j b r c
-    → Wrote (spaced (marker_fields m)) i a r c
+pub marker_adds : (m : Option Point) (p : Point) {a b c : Text} → m ≡ Some p → Adds (with_space (single_text p.x)) single_room a b → Adds (with_space (single_text p.y)) single_room b c
+    → Adds (spaced (marker_fields m)) (2 * single_room) a c
 unfolding spaced flat_map marker_fields
-marker_wrote m p i j r a b c e u v =
-    let x = with_space (single_text p.x) in
-    let y = with_space (single_text p.y) in
-    rw e (wrote_then x (y ++ []) i j r a b c u (wrote_as y (y ++ []) j r b c (sym (append-nil y)) v))
+marker_adds m p e u v = rw e (adds_then u (adds_as {n = single_room} (sym (append-nil (with_space (single_text p.y)))) (omega arith) v))
 
-pub missing_wrote : (m : Option Point) (i r : ℕ) (a b : List ℕ) → m ≡ None → Wrote (dash ++ (space ∷ [])) i a r b → Wrote (spaced (marker_fields m)) i a r b
+pub missing_adds : (m : Option Point) {k : ℕ} {a b : Text} → m ≡ None → k ≤ 2 * single_room → Adds (with_space dash) k a b → Adds (spaced (marker_fields m)) (2 * single_room) a b
 unfolding spaced flat_map marker_fields
-missing_wrote m i r a b e u = rw e u
+missing_adds m e h u = rw e (adds_as refl h u)
 
 -- ---- a line of many fields
 line_first : (x : List ℕ) (xs ys : List (List ℕ)) → 0 < length ys → line_text (x ∷ (xs ++ ys)) ≡ x ++ (space ∷ line_text (xs ++ ys))
@@ -80,20 +65,16 @@ line_split (x ∷ xs) ys h =
     line_first x xs ys h ∙ ap (λ z. x ++ (space ∷ z)) (line_split xs ys h) ∙ sym (append_snoc x space (spaced xs ++ line_text ys)) ∙ sym (append_assoc (with_space x) (spaced xs) (line_text ys))
 
 module _ (g : ℕ → List ℕ) where
-  pub numbers_none : (i : ℕ) (a : List ℕ) → Wrote (spaced (tabulate 0 g)) i a i a
+  pub numbers_none : (a : Text) → Adds (spaced (tabulate 0 g)) 0 a a
   unfolding spaced flat_map tabulate
-  numbers_none i a = wrote_none i a
+  numbers_none a = adds_none a
 
   spaced_next : (k : ℕ) → spaced (tabulate k g) ++ with_space (g k) ≡ spaced (tabulate (k + 1) g)
   unfolding spaced flat_map tabulate
   spaced_next k = rw (add-one k) (sym (flat_map-append with_space (tabulate k g) (g k ∷ []) ∙ ap (λ z. flat_map with_space (tabulate k g) ++ z) (append-nil (with_space (g k)))))
 
-  pub number_next : (k i o r : ℕ) (a b c : List ℕ) → Wrote (spaced (tabulate k g)) i a o b → Wrote (g k ++ (space ∷ [])) o b r c → Wrote (spaced (tabulate (k + 1) g)) i a r c
-  number_next k i o r a b c p q =
-      wrote_as (spaced (tabulate k g) ++ with_space (g k)) (spaced (tabulate (k + 1) g)) i r a c (spaced_next k) (wrote_then (spaced (tabulate k g)) (with_space (g k)) i o r a b c p q)
-
-  pub numbers_end : (n k i r : ℕ) (a b : List ℕ) → k ≡ n → Wrote (spaced (tabulate k g)) i a r b → Wrote (spaced (tabulate n g)) i a r b
-  numbers_end n k i r a b e p = wrote_as (spaced (tabulate k g)) (spaced (tabulate n g)) i r a b (ap (λ z. spaced (tabulate z g)) e) p
+  pub number_next : (k : ℕ) {a b c : Text} → Adds (spaced (tabulate k g)) (double_room * k) a b → Adds (with_space (g k)) double_room b c → Adds (spaced (tabulate (k + 1) g)) (double_room * (k + 1)) a c
+  number_next k p q = adds_as (spaced_next k) (omega arith) (adds_then p q)
 
 -- score and mean module
 abbrev grades : Detection → List (List ℕ)
@@ -109,33 +90,19 @@ detection_is d =
     let g = grades d in
     sym (append_assoc (with_space v) (spaced m) (spaced n ++ line_text g)) ∙ ap (λ z. spaced (v ∷ m) ++ z) (sym (line_split n g (omega arith))) ∙ sym (line_split (v ∷ m) (n ++ g) (omega (arith, length-append n g)))
 
-pub detection_wrote : (d : Detection) (i j k l o r : ℕ) (a b c e f x : List ℕ) → Wrote (decimal_text d.version.0 ++ (space ∷ [])) i a j b → Wrote (spaced (marker_fields d.marker)) j b k c
-    → Wrote (spaced (number_fields d.transform.m)) k c l e → Wrote (single_text d.score ++ (space ∷ [])) l e o f → Wrote (single_text d.mean ++ (line_feed ∷ [])) o f r x → Wrote (detection_line d) i a r x
-detection_wrote d i j k l o r a b c e f x p q s t u =
-    let v = with_space (decimal_text d.version.0) in
-    let m = spaced (marker_fields d.marker) in
-    let n = spaced (number_fields d.transform.m) in
-    let g = line_text (grades d) in
-    let w3 = next (single_text d.score) (single_text d.mean) [] l o r e f x t (last (single_text d.mean) o r f x u) in
-    let w2 = wrote_then n g k l r c e x s w3 in
-    let w1 = wrote_then m (n ++ g) j k r b c x q w2 in
-    wrote_as (v ++ (m ++ (n ++ g))) (detection_line d) i r a x (detection_is d) (wrote_then v (m ++ (n ++ g)) i j r a b x p w1)
+pub detection_adds : (d : Detection) {a b c e f x : Text} → Adds (with_space (decimal_text d.version.0)) decimal_room a b → Adds (spaced (marker_fields d.marker)) (2 * single_room) b c
+    → Adds (spaced (number_fields d.transform.m)) (8 * double_room) c e → Adds (with_space (single_text d.score)) single_room e f → Adds (single_text d.mean ++ (line_feed ∷ [])) single_room f x
+    → Adds (detection_line d) detection_room a x
+detection_adds d p q s t u = adds_as (detection_is d) (omega arith) (adds_then p (adds_then q (adds_then s (next _ _ _ t (last _ u)))))
 
 -- ---- a line for each of a list
-module _ {A : Type 0} (g : A → List ℕ) where
-  pub lines_none : (xs : List A) (i : ℕ) (a : List ℕ) → Wrote (flat_map g (take 0 xs)) i a i a
+module _ {A : Type 0} (g : A → List ℕ) (room : ℕ) (xs : List A) where
+  pub lines_none : (a : Text) → Adds (flat_map g (take 0 xs)) (room * 0) a a
   unfolding flat_map
-  lines_none xs i a = wrote_none i a
+  lines_none a = adds_as refl (omega arith) (adds_none a)
 
-  pub lines_next : (xs : List A) (k : ℕ) (d : A) (i o r : ℕ) (a b c : List ℕ) → k < length xs → Wrote (flat_map g (take k xs)) i a o b → Wrote (g (get_or xs k d)) o b r c → Wrote (flat_map g (take (k + 1) xs)) i a r c
-  lines_next xs k d i o r a b c h p q =
-      wrote_as (flat_map g (take k xs) ++ g (get_or xs k d)) (flat_map g (take (k + 1) xs)) i r a c (sym (flat_map-take g xs k d h)) (wrote_then (flat_map g (take k xs)) (g (get_or xs k d)) i o r a b c p q)
+  pub lines_next : (k : ℕ) (x : A) {a b c : Text} → k < length xs → x ≡ get_or xs k x → Adds (flat_map g (take k xs)) (room * k) a b → Adds (g x) room b c → Adds (flat_map g (take (k + 1) xs)) (room * (k + 1)) a c
+  lines_next k x h e p q = adds_as (ap (λ y. flat_map g (take k xs) ++ g y) e ∙ sym (flat_map-take g xs k x h)) (omega arith) (adds_then p q)
 
-  -- the first m of them, which are as many as are counted, or all there are where more are counted
-  pub lines_all : (xs : List A) (m k n most i r : ℕ) (a b : List ℕ) → length xs ≡ most → m ≡ min n most → length (take m xs) ≤ k → Wrote (flat_map g (take k (take m xs))) i a r b → Wrote (flat_map g (take n xs)) i a r b
-  lines_all xs m k n most i r a b l e h p =
-      wrote_as (flat_map g (take k (take m xs))) (flat_map g (take n xs)) i r a b (ap (flat_map g) (take_all k (take m xs) h ∙ go (cases_lt n most))) p
-    where
-      go : (n < most) ⊎ (most ≤ n) → take m xs ≡ take n xs
-      go (inl q) = let z : m ≡ n = omega arith in ap (λ z. take z xs) z
-      go (inr q) = take_all m xs (omega arith) ∙ sym (take_all n xs (omega arith))
+  pub lines_all : (k : ℕ) {a b : Text} → k ≡ length xs → Adds (flat_map g (take k xs)) (room * k) a b → Adds (flat_map g xs) (room * length xs) a b
+  lines_all k e p = adds_as (ap (flat_map g) (take_all k xs (omega arith))) (let x : room * k ≤ room * length xs = rw e (omega arith) in x) p

@@ -18,7 +18,7 @@ use Rattle.little_endian.proofs.Round.{put_front}
 use Rattle.geometry.specs.declared.Finder.{Finder}
 use Rattle.geometry.specs.Order.{zero_finder}
 use Rattle.finders.specs.declared.Finders.{Finders}
-use Rattle.finders.proofs.Outcomes.{answer_table, answer_refusal}
+use Rattle.finders.proofs.Outcomes.{answer_table}
 use Rattle.finders.specs.Search.{max_finders, found}
 use Rattle.finders.specs.Answer.{held_in, find_checks, find_refusal, finders_of, answer_of, table_of as finders_table}
 use Rattle.ranking.specs.declared.Eight.{Eight}
@@ -33,25 +33,22 @@ use Rattle.candidates.proofs.Tails.{finders_tail, answer_tail}
 use Rattle.stages.specs.Pictures.{denoised_picture, left_after}
 use Rattle.stages.proofs.Theorems.{denoised_first}
 use Rattle.chain.specs.Chain.{chain_of}
-use Rattle.listing_text.specs.Inner.{Wrote, found_text}
+use Rattle.listing_text.specs.declared.pieces.Text.{Text}
+use Rattle.listing_text.specs.Inner.{Wrote, Adds, found_text}
 use Rattle.listing_text.specs.Listing.{refused_line, head_line, finder_line, detection_line, list_text, detections_in, answer_text, chain_text, width_of, height_of, picture_of, listing_refusal, listing_of, listing_room, written_in}
-use Rattle.listing_text.proofs.Writing.{wrote_then, wrote_as}
+use Rattle.listing_text.proofs.Writing.{wrote_as, adds_then}
 
 -- ---- the list
-pub list_wrote : (w h : ℕ) (t : Finders) (u : Detections) (j k r : ℕ) (a b c d : List ℕ) → Wrote (head_line w h t.count u.count) 0 a j b → Wrote (flat_map finder_line (held_in t)) j b k c
-    → Wrote (flat_map detection_line (detections_in u)) k c r d → (fs : List Finder) (ds : List Detection) → t ≡ finders_table fs → u ≡ table_of ds → Wrote (list_text w h fs ds) 0 a r d
+pub list_adds : (w h : ℕ) (t : Finders) (u : Detections) (xs : List Finder) (ys : List Detection) {i j k : ℕ} {a b c d : Text} → xs ≡ held_in t → ys ≡ detections_in u
+    → Adds (head_line w h t.count u.count) i a b → Adds (flat_map finder_line xs) j b c → Adds (flat_map detection_line ys) k c d
+    → (fs : List Finder) (ds : List Detection) → t ≡ finders_table fs → u ≡ table_of ds → Adds (list_text w h fs ds) (i + (j + k)) a d
 unfolding list_text
-list_wrote w h t u j k r a b c d p q s fs ds e f =
-    let n : t.count ≡ length fs = ap (λ (t : Finders). t.count) e in
-    let m : u.count ≡ length ds = ap (λ (u : Detections). u.count) f in
-    let x : held_in t ≡ fs = ap (λ (t : Finders). held_in t) e ∙ take-padded max_finders zero_finder fs in
-    let y : detections_in u ≡ ds = ap (λ (u : Detections). detections_in u) f ∙ take-padded 3 zero_detection ds in
-    let hl = head_line w h t.count u.count in
-    let fl = flat_map finder_line (held_in t) in
-    let dl = flat_map detection_line (detections_in u) in
-    wrote_as (hl ++ (fl ++ dl)) (head_line w h (length fs) (length ds) ++ (flat_map finder_line fs ++ flat_map detection_line ds)) 0 r a d
-    (ap₂ (λ (x y : List ℕ). x ++ y) (ap₂ (head_line w h) n m) (ap₂ (λ (x y : List ℕ). x ++ y) (ap (flat_map finder_line) x) (ap (flat_map detection_line) y)))
-    (wrote_then hl (fl ++ dl) 0 j r a b d p (wrote_then fl dl j k r b c d q s))
+list_adds w h t u xs ys ex ey p q s fs ds e f =
+    let c : t.count ≡ length fs = ap (λ (t : Finders). t.count) e in
+    let d : u.count ≡ length ds = ap (λ (u : Detections). u.count) f in
+    let x : xs ≡ fs = ex ∙ ap (λ (t : Finders). held_in t) e ∙ take-padded max_finders zero_finder fs in
+    let y : ys ≡ ds = ey ∙ ap (λ (u : Detections). detections_in u) f ∙ take-padded 3 zero_detection ds in
+    rw (c, d) at rw (x, y) at (adds_then p (adds_then q s))
 
 -- ---- the search
 module _ (bits : List ℕ) (w h : ℕ) where
@@ -62,9 +59,6 @@ module _ (bits : List ℕ) (w h : ℕ) where
   pub answer_passed : find_refusal bits w h ≡ 0 → detect_answer bits w h ≡ Ok (table_of ds)
   unfolding detect_answer find_refusal
   answer_passed z = sym (checked_passed (find_checks (length bits) w h (found bits w h)) (table_of ds) (sym z))
-
-  pub answer_holds : find_refusal bits w h ≡ 0 → detections_in (table_in (detect_answer bits w h)) ≡ ds
-  answer_holds z = ap (λ (a : Result Detections Refusal). detections_in (table_in a)) (answer_passed z) ∙ take-padded 3 zero_detection ds
 
   -- the text, by what is refused
   refused_text : (fs : List Finder) (a : Result Detections Refusal) → (number_of a ≡ 0 → ⊥) → answer_text w h fs a ≡ refused_line (number_of a)
@@ -84,14 +78,13 @@ module _ (bits : List ℕ) (w h : ℕ) where
       let fs = finders_of bits w h in
       ap (answer_text w h fs) (answer_passed z) ∙ ap (list_text w h fs) (take-padded 3 zero_detection ds)
 
-  pub found-refused : (refusal : Refusal) (n r : ℕ) (a b : List ℕ) → Err refusal ≡ answer_of bits w h → n ≡ refusal_number refusal → Wrote (refused_line n) 0 a r b
+  pub found-refused : (refusal : Refusal) (n r : ℕ) (a b : List ℕ) → refusal_number refusal ≡ find_refusal bits w h → n ≡ refusal_number refusal → Wrote (refused_line n) 0 a r b
       → Wrote (found_text bits w h) 0 a r b
-  found-refused refusal n r a b e q p =
-      let z = answer_refusal bits w h refusal e in
+  found-refused refusal n r a b z q p =
       wrote_as (refused_line n) (found_text bits w h) 0 r a b (ap refused_line (q ∙ z) ∙ sym (text_refused (λ i. some_number refusal (z ∙ i)))) p
 
   module _ (f : Finders) (e : Ok f ≡ answer_of bits w h) where
-    none : find_refusal bits w h ≡ 0
+    pub none : find_refusal bits w h ≡ 0
     none = (answer_table bits w h f e).0
 
     found_table : f ≡ finders_table (finders_of bits w h)

@@ -6,6 +6,7 @@ use Rattle.lcr_core.specs.Outcome.{zero_side, large_side}
 use Rattle.little_endian.specs.Bytes.{put}
 use Rattle.finders.specs.Answer.{finders_of}
 use Rattle.candidates.specs.Candidates.{detect_answer}
+use Rattle.listing_text.specs.declared.pieces.Text.{Text}
 use Rattle.listing_text.specs.Text.{space}
 use Rattle.listing_text.specs.Listing.{max_pixels, answer_text}
 
@@ -16,6 +17,12 @@ Passed w h p = (zero_side w h ≡ false) × (large_side w h ≡ false) × (w * h
 -- a piece was put at place i of a slice, and r is the place after it
 abbrev pub Wrote : List ℕ → ℕ → List ℕ → ℕ → List ℕ → Type 0
 Wrote piece i before r after = (after ≡ put piece i before) × (r ≡ i + length piece)
+
+-- a piece of so many characters at most was put at the place of a listing under construction, which still holds the same slice
+pub record Adds (piece : List ℕ) (most : ℕ) (old new : Text) : Type 0 where
+  pub same_slice : new.text.ghost_name ≡ old.text.ghost_name
+  pub wrote : Wrote piece old.at old.text.now new.at new.text.now
+  pub within : new.at ≤ old.at + most
 
 -- a field with a space after it
 abbrev pub with_space : List ℕ → List ℕ

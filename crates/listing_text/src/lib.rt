@@ -1,15 +1,20 @@
 // Document 01's listing: every character of the text that the program prints for an input.
 #![tactic(auto)]
 
-ghost use Rattle.std.specs.Prelude.{◌≡◌, ◌++◌, ◌*◌, ◌≤◌, length, take, drop};
+ghost use Rattle.std.specs.Prelude.{◌≡◌, ◌++◌, ◌*◌, ◌≤◌, length, take, drop, IfOk, IfErr};
 ghost use Rattle.lcr_core.specs.Outcome.{number_of};
+ghost use Rattle.finders.specs.Answer.{find_refusal};
 ghost use Rattle.listing_text.specs.Inner.{Passed, Wrote, found_text};
 ghost use Rattle.listing_text.specs.Listing.{chain_text, listing_refusal, listing_of, listing_room, written_in};
 
+use binary::picture::LentBits;
+use blocks::Blocks;
 use candidates::eight_in;
 use finders::MAX_FINDERS;
-use lcr_core::{Refusal, check_sides, number};
+use image::gray::LentPixels;
+use lcr_core::{Refusal, check_sides};
 use lines::{put_list, put_refusal};
+use stages::Slices;
 
 mod lines;
 mod pieces;
@@ -43,16 +48,24 @@ fn check_input(input: &[u8]) -> Result<(), Refusal>
     Ok(())
 }
 
-// The text of a picture whose denoised bits these are, at the front.
-fn put_found(bits: &[u8], width: u32, height: u32, text: &mut [u8]) -> u32
-    ensures text { Wrote (found_text bits.now width height) 0 text.old result text.new }
+// The text of a picture whose denoised bits these are, at the front, where the search refuses nothing.
+fn put_searched(bits: LentBits<'_>, text: &mut [u8]) -> Result<u32, Refusal>
+    ensures text { let p = bits.entry in IfOk result (λ len. Wrote (found_text p.bits.now p.width p.height) 0 text.old len text.new × (len ≤ listing_room)) }
+    ensures number { let p = bits.entry in number_of result ≡ find_refusal p.bits.now p.width p.height }
+    ensures kept { IfErr result (λ _. text.new ≡ text.old) }
+{
+    let found = finders::find_finders(bits)?;
+    let detected = candidates::candidates_in(bits, eight_in(found))?;
+    Ok(put_list(text, bits.width, bits.height, found, detected))
+}
+
+// The same, or its refusal.
+fn put_found(bits: LentBits<'_>, text: &mut [u8]) -> u32
+    ensures text { let p = bits.entry in Wrote (found_text p.bits.now p.width p.height) 0 text.old result text.new }
     ensures most { result ≤ listing_room }
 {
-    match finders::find_finders(bits, width, height) {
-        Ok(found) => match candidates::candidates_in(bits, width, height, eight_in(found)) {
-            Ok(detections) => put_list(text, width, height, found, detections),
-            Err(refusal) => put_refusal(text, u8::from(refusal)),
-        },
+    match put_searched(bits, text) {
+        Ok(len) => len,
         Err(refusal) => put_refusal(text, u8::from(refusal)),
     }
 }
@@ -71,22 +84,33 @@ fn put_picture(picture: &[u8], width: u32, height: u32, text: &mut [u8]) -> u32
     let mut greatest = [0u8; 1600];
     let mut edges = [0u8; 1600];
     let mut nears = [0u8; 1600];
-    let _ = stages::stages(
-        picture,
+    let pixels = LentPixels {
+        data: picture,
         width,
         height,
+        stride: width,
+        format: 1,
+    };
+    let mut blocks = Blocks {
+        means: &mut means,
+        least: &mut least,
+        greatest: &mut greatest,
+        edges: &mut edges,
+        nears: &mut nears,
+    };
+    let mut slices = Slices {
+        gray: &mut gray,
+        bits: &mut bits,
+        denoised: &mut denoised,
+        blocks: &mut blocks,
+    };
+    let _ = stages::stages(pixels, &mut slices);
+    let bits = LentBits {
+        bits: slices.denoised,
         width,
-        1,
-        &mut gray,
-        &mut bits,
-        &mut denoised,
-        &mut means,
-        &mut least,
-        &mut greatest,
-        &mut edges,
-        &mut nears,
-    );
-    put_found(&denoised, width, height, text)
+        height,
+    };
+    put_found(bits, text)
 }
 
 // The text of an input, at the front.

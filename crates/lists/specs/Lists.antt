@@ -47,11 +47,6 @@ unfoldable pub how_many : {A : Type 0} → (A → Bool) → List A → ℕ
 how_many p [] = 0
 how_many p (x ∷ xs) = cond (p x) (suc (how_many p xs)) (how_many p xs)
 
--- the place of the first that passes p, or the length where none does
-unfoldable pub first_where : {A : Type 0} → (A → Bool) → List A → ℕ
-first_where p [] = 0
-first_where p (x ∷ xs) = cond (p x) 0 (suc (first_where p xs))
-
 -- f of each, one after the other
 unfoldable pub flat_map : {A B : Type 0} → (A → List B) → List A → List B
 flat_map f [] = []

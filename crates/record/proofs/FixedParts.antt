@@ -1,5 +1,5 @@
 -- The fixed part of a function's payload, from a table by number. Assumes nothing.
-use Rattle.std.proofs.Common.{◌≡◌, ℕ, ◌<◌, ◌≤◌, Bool, true, false, cond, eqb, ltb, List, [], ◌∷◌, sym, refl, ap, ◌∙◌, true≢false, arith, ltb-false, le-ltb, lt-ltb, ne_eqb, eqb-true}
+use Rattle.std.proofs.Common.{◌≡◌, ℕ, ◌≤◌, Bool, true, false, cond, eqb, ltb, List, [], ◌∷◌, sym, refl, ap, ◌∙◌, true≢false, arith, ltb-false, ne_eqb, eqb-true}
 use Rattle.record.specs.Record.{lookup, fixed_parts, fixed_part, asked_of}
 
 -- one of the functions that are listed
@@ -57,9 +57,3 @@ asked_fits f len = go (ltb len (fixed_part f)) refl
     go : (v : Bool) → ltb len (fixed_part f) ≡ v → fixed_part (cond v 0 f) ≤ len
     go true p = omega (arith, fixed_none)
     go false p = ltb-false len (fixed_part f) p
-
-pub asked_none : (f len v : ℕ) → v ≡ fixed_part f → len < v → 0 ≡ asked_of f len
-asked_none f len v e h = rw (← e, lt-ltb len v h)
-
-pub asked_known : (f len v : ℕ) → v ≡ fixed_part f → v ≤ len → f ≡ asked_of f len
-asked_known f len v e h = rw (← e, le-ltb len v h)

@@ -1,9 +1,12 @@
 -- Parts of records as they are read, and of answers as they are written, one after the other. Assumes nothing.
-use Rattle.std.proofs.Common.{◌≡◌, ℕ, zero, suc, ◌+◌, ◌-◌, ◌*◌, ◌/◌, ◌%◌, ◌<◌, ◌≤◌, min, false, eqb, List, [], ◌∷◌, ◌++◌, length, get_or, take, drop, set, replicate, sym, refl, ap, ◌∙◌, append-nil, add-zero, add-one, arith, length-append, take_all, ◌⊎◌, inl, inr}
+use Rattle.std.proofs.Common.{◌≡◌, ℕ, zero, suc, ◌+◌, ◌-◌, ◌*◌, ◌/◌, ◌%◌, ◌^◌, ◌<◌, ◌≤◌, min, Bool, true, false, eqb, List, [], ◌∷◌, ◌++◌, length, get_or, take, drop, set, replicate, sym, refl, ap, ◌∙◌, append-nil, add-zero, add-one, arith, length-append, ◌⊎◌, inl, inr}
 use Rattle.std.proofs.lemmas.Bool.{cases_lt}
-use Rattle.std.proofs.lemmas.List.{get_or-drop}
+use Rattle.std.proofs.lemmas.List.{get_or-drop, get_or-take, take_min}
+use Rattle.std.proofs.Math.Nat.{pow-le-pow_right}
 use lib.Seq.{take-length, drop-length}
 use lib.Ieee.{binary32, binary64, to_bits, of_bits}
+use Rattle.std.specs.Int.{from_bool}
+use Rattle.io.specs.Digits.{last_digits, IsDigitCount}
 use Rattle.lists.specs.Lists.{tabulate, filled, flat_map}
 use Rattle.lists.proofs.Tabulate.{filled_whole, length-tabulate}
 use Rattle.lists.proofs.Folds.{flat_map-append}
@@ -18,9 +21,13 @@ use Rattle.finders.specs.Answer.{held_in}
 use Rattle.candidates.specs.declared.Detection.{Detection}
 use Rattle.firmware.specs.Firmware.{single_bytes, double_bytes, finder_bytes, transform_bytes}
 use Rattle.firmware.proofs.Bytes.{length_double, length_finder, length_transform}
-use Rattle.record.specs.Record.{double_at, finder_at, finders_at, point_bytes, lens_bytes, finders_bytes, grade_bytes, digit_of, byte_digits, digits_line, most_bytes, answer_line, line_of}
+use Rattle.record.specs.Record.{double_at, finder_at, finders_at, point_bytes, lens_bytes, finders_bytes, flag, grade_bytes, digit_of, byte_digits, digits_line, most_bytes, answer_line, line_of}
 
 -- ---- numbers
+
+pub flag_is : (b : Bool) → from_bool b ≡ flag b
+flag_is true = refl
+flag_is false = refl
 
 pub point_is : (q : Point) (i : ℕ) (l : List ℕ) → put (single_bytes q.y) (i + 4) (put (single_bytes q.x) i l) ≡ put (point_bytes q) i l
 point_is q i l = put_then 4 (single_bytes q.x) (single_bytes q.y) i (i + 4) l (length_bytes 4 (to_bits binary32 q.x)) refl
@@ -62,11 +69,7 @@ found_all p at count old l i h n e =
 
 -- the finders of a table are written, up to its count or its end
 pub held_all : (t : Finders) (n : ℕ) → n ≡ min t.count 128 → length t.table ≡ 128 → take n t.table ≡ held_in t
-held_all t n h e = go (cases_lt t.count 128)
-  where
-    go : (t.count < 128) ⊎ (128 ≤ t.count) → take n t.table ≡ held_in t
-    go (inl q) = let m : n ≡ t.count = omega arith in ap (λ z. take z t.table) m
-    go (inr q) = take_all n t.table (omega arith) ∙ sym (take_all t.count t.table (omega arith))
+held_all t n h e = ap (λ z. take z t.table) (h ∙ ap (min t.count) (sym e)) ∙ take_min t.count t.table
 
 pub finders_are : (t : Finders) (at : ℕ) (l : List ℕ) → put (flat_map finder_bytes (held_in t)) (at + 1) (set l at (t.count % 256)) ≡ put (finders_bytes t) at l
 unfolding bytes_le put
@@ -112,6 +115,24 @@ length_spelled f i = length_flat byte_digits 2 length_digits (tabulate i f) ∙ 
 spelled_next : (f : ℕ → ℕ) (i : ℕ) → flat_map byte_digits (tabulate (i + 1) f) ≡ flat_map byte_digits (tabulate i f) ++ byte_digits (f i)
 unfolding tabulate flat_map
 spelled_next f i = rw (add-one i) (flat_map-append byte_digits (tabulate i f) (f i ∷ []) ∙ ap (λ z. flat_map byte_digits (tabulate i f) ++ z) (append-nil (byte_digits (f i))))
+
+-- a byte takes two digits, when padded to two
+few_digits : (b k : ℕ) → b < 256 → IsDigitCount 16 2 b k → k ≡ 2
+few_digits b k h n = go (cases_lt 2 k)
+  where
+    go : (2 < k) ⊎ (k ≤ 2) → k ≡ 2
+    go (inl q) =
+        let m : 2 ≤ k - 1 = omega (arith, q) in
+        let p : 16 ^ 2 ≤ 16 ^ (k - 1) = pow-le-pow_right (omega arith) m in
+        absurd (omega (arith, p, n.2 q, h))
+    go (inr q) = omega (arith, q, n.0)
+
+-- as `io` puts them at the front of its room
+pub two_digits : (b k : ℕ) (room : List ℕ) → b < 256 → IsDigitCount 16 2 b k → take k room ≡ last_digits 16 k b
+    → (get_or room 0 0 ≡ digit_of (b / 16 % 16)) × (get_or room 1 0 ≡ digit_of (b % 16))
+two_digits b k room h n e =
+    let t : take 2 room ≡ last_digits 16 2 b = rw (few_digits b k h n) at e in
+    (sym (get_or-take 2 room 0 0 (omega arith)) ∙ ap (λ z. get_or z 0 0) t, sym (get_or-take 2 room 1 0 (omega arith)) ∙ ap (λ z. get_or z 1 0) t)
 
 pub spelled_more : (f : ℕ → ℕ) (l text : List ℕ) (i high low : ℕ) → text ≡ put (flat_map byte_digits (tabulate i f)) 0 l
     → high ≡ digit_of (f i / 16 % 16) → low ≡ digit_of (f i % 16)

@@ -1,14 +1,13 @@
 -- Laws of lent slices: their lengths, what they hold, their hash and what is answered of them. Assumes nothing.
-use Rattle.std.proofs.Common.{◌≡◌, ℕ, zero, suc, ◌+◌, ◌*◌, ◌/◌, ◌%◌, ◌^◌, ◌<◌, ◌≤◌, ◌⊎◌, inl, inr, add-zero, min, false, cond, ◌&&◌, leb, ltb, List, [], ◌∷◌, ◌++◌, length, take, drop, sym, refl, ap, ◌∙◌, append-nil, arith, length-append, length-drop, length-take-le, take_at, drop_at, le-ltb, lt-ltb}
-use native.Mathlib.Nat.{mod-add-mod, add-mul-mod_self_left, div-div-eq-div-mul}
+use Rattle.std.proofs.Common.{◌≡◌, ℕ, zero, suc, ◌+◌, ◌*◌, ◌/◌, ◌%◌, ◌<◌, ◌≤◌, ◌⊎◌, inl, inr, add-zero, false, cond, ◌&&◌, leb, ltb, List, [], ◌∷◌, ◌++◌, length, take, drop, sym, refl, ap, ◌∙◌, append-nil, arith, length-append, length-drop, length-take-le, drop_at, le-ltb, lt-ltb}
+use native.Mathlib.Nat.{div-div-eq-div-mul}
 use Rattle.std.specs.List.{fold, list_all, range_with_len}
 use Rattle.std.proofs.lemmas.Bool.{cases_lt, le-leb, lt-leb}
 use Rattle.lists.specs.Lists.{flat_map, folded}
-use Rattle.lists.proofs.Tabulate.{length-tabulate}
 use Rattle.little_endian.specs.Bytes.{bytes_le, put}
 use Rattle.little_endian.proofs.Pieces.{put_then}
 use Rattle.little_endian.proofs.Round.{length_bytes}
-use Rattle.record.specs.Record.{longest, length_at, lendable_at, lent_bytes, hash_of, slice_bytes}
+use Rattle.record.specs.Record.{longest, length_at, lendable_at, hash_of, slice_bytes}
 
 -- ---- lengths that have room
 
@@ -37,38 +36,12 @@ kept_long n l part h e = length-append part (drop n l) ∙ omega (arith, e, leng
 pub kept_rest : (n : ℕ) (l part : List ℕ) → n ≤ length l → length part ≡ length (take n l) → drop n (part ++ drop n l) ≡ drop n l
 kept_rest n l part h e = drop_at part (drop n l) n (e ∙ length-take-le n l h)
 
--- the front of a slice, filled and handed out
-pub lent_front : (n v : ℕ) (s part : List ℕ) → n ≡ v → n ≤ length s → part ≡ lent_bytes (length (take n s)) → take n (part ++ drop n s) ≡ lent_bytes (min v (length s))
-lent_front n v s part q h e =
-    let m : min v (length s) ≡ n = omega arith in
-    rw (e, length-take-le n s h, m) (take_at (lent_bytes n) (drop n s) n (length-tabulate n (λ i. i % 251)))
-
--- the whole slice
-pub lent_whole : (n v : ℕ) (s part : List ℕ) → n ≡ v → length s < n → part ≡ lent_bytes (length s) → part ≡ lent_bytes (min v (length s))
-lent_whole n v s part q h e = let m : min v (length s) ≡ length s = omega arith in rw (e, m)
-
 -- ---- the hash
 
 pub folded_is : {S A : Type 0} (g : S → A → S) (s : S) (l : List A) → fold g s l ≡ folded g s l
 unfolding folded
 folded_is g s [] = refl
 folded_is g s (x ∷ l) = folded_is g (g s x) l
-
--- times 2^40 + 435 modulo 2^64, from parts that a word holds
-pub product_is : (x : ℕ)
-    → ((x % 4294967296 * 435 + x / 4294967296 % 4294967296 * 435 % 4294967296 * 4294967296) % 2 ^ 64 + x % 16777216 * 1099511627776) % 2 ^ 64 ≡ x * 1099511628211 % 2 ^ 64
-product_is x =
-    let c = x / 4294967296 in
-    let d = c % 4294967296 * 435 in
-    let low = x % 4294967296 * 435 in
-    let high = d % 4294967296 * 4294967296 in
-    let top = x % 16777216 * 1099511627776 in
-    let k = d / 4294967296 + 435 * (c / 4294967296) + x / 16777216 in
-    let a : x * 1099511627776 ≡ top + 18446744073709551616 * (x / 16777216) = omega arith in
-    let b : x * 435 ≡ low + c * 435 * 4294967296 = omega arith in
-    let e : c * 435 ≡ d % 4294967296 + 4294967296 * (d / 4294967296 + 435 * (c / 4294967296)) = omega arith in
-    let t : x * 1099511628211 ≡ low + high + top + 18446744073709551616 * k = omega (arith, a, b, e) in
-    mod-add-mod (low + high) (2 ^ 64) top ∙ sym (ap (λ y. y % 2 ^ 64) t ∙ add-mul-mod_self_left (low + high + top) (2 ^ 64) k)
 
 -- ---- a slice in an answer
 

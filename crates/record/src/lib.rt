@@ -2,9 +2,9 @@
 // A byte beyond a slice reads as 0 and is not written.
 #![tactic(auto)]
 
-ghost use Rattle.std.specs.Prelude.{◌≡◌, ◌+◌, ◌*◌, ◌%◌, ◌≤◌, length, take};
+ghost use Rattle.std.specs.Prelude.{◌≡◌, ◌+◌, ◌*◌, ◌≤◌, length, take};
 ghost use Rattle.little_endian.specs.Bytes.{put};
-ghost use Rattle.record.specs.Record.{fixed_part, asked_of, ReadInto, digit_of, digits_line, answer_line, line_of};
+ghost use Rattle.record.specs.Record.{fixed_part, asked_of, ReadInto, digits_line, answer_line, line_of};
 
 pub mod slices;
 pub mod values;
@@ -35,6 +35,7 @@ impl Line {
 }
 
 // How many bytes the payload of a function has before its lists and its rest.
+#[tactic(auto, unfolding(crate::specs::Record::fixed_part, crate::specs::Record::lookup))]
 fn fixed_part(function: u8) -> usize
     ensures { result ≡ fixed_part function }
 {
@@ -110,26 +111,17 @@ pub fn read(payload: &mut [u8]) -> Option<Call>
     })
 }
 
-fn digit(n: u8) -> u8
-    ensures { result ≡ digit_of (n % 16) }
-{
-    if n % 16 < 10 {
-        48 + n % 16
-    } else {
-        87 + n % 16
-    }
-}
-
 // The first n bytes of an answer as hexadecimal digits and a line feed, in text; how many bytes these are.
 fn spell(out: &[u8; ANSWER], n: usize, text: &mut [u8]) -> usize
     requires { (n ≤ 2304) × (length text.old ≡ 4609) }
     ensures line { text.new ≡ put (digits_line n out.now) 0 text.old }
     ensures len { result ≡ 2 * n + 1 }
 {
-    for i in 0..n {
-        let b = out[i];
-        text[2 * i] = digit(b / 16);
-        text[2 * i + 1] = digit(b);
+    let mut room = [0u8; 16];
+    for (i, b) in out[..n].iter().enumerate() {
+        io::hex(*b as u64, 2, &mut room);
+        text[2 * i] = room[0];
+        text[2 * i + 1] = room[1];
     }
     text[2 * n] = b'\n';
     2 * n + 1
@@ -150,7 +142,7 @@ pub fn answer_line(out: &[u8; ANSWER], n: usize) -> Line
 }
 
 // What a replay program answers: to a function's number and a payload, the bytes of the answer, and how many they are: none for a function that it does not
-// know.
+// know. What is read and what is written have two ends, so they are two slices and no struct.
 pub trait Answers {
     fn answer(function: u8, payload: &[u8], out: &mut [u8]) -> usize;
 }

@@ -1,4 +1,5 @@
 // Parts of a record's payload, and the slices that a call is lent: filled by their places before it, answered by their length and hash.
+// The places are docs/REPLAY.md's, so slice and place go one by one.
 ghost use Rattle.std.specs.Prelude.{◌≡◌, ◌+◌, ◌^◌, ◌<◌, min, [], ◌∷◌, length, take, drop};
 ghost use Rattle.lists.specs.Lists.{flat_map};
 ghost use Rattle.little_endian.specs.Bytes.{put};
@@ -11,20 +12,14 @@ pub const LONGEST: usize = 262144;
 pub fn front(s: &[u8], n: usize) -> &[u8]
     ensures { result.now ≡ take n s.now }
 {
-    if n <= s.len() {
-        return &s[..n];
-    }
-    s
+    s.get(..n).unwrap_or(s)
 }
 
 // What follows the first n bytes.
 pub fn rest(s: &[u8], n: usize) -> &[u8]
     ensures { result.now ≡ drop n s.now }
 {
-    if n <= s.len() {
-        return &s[n..];
-    }
-    &s[..0]
+    s.get(n..).unwrap_or(&[])
 }
 
 // The length of a lent slice that stands in a record.
@@ -46,13 +41,10 @@ pub fn lendable(p: &[u8], at: u16, slices: u8) -> bool
 pub fn lent<'a>(s: &'a mut [u8], p: &[u8], at: u32) -> &'a mut [u8]
     ensures { result.now ≡ lent_bytes (min (length_at p.now at) (length s.old)) }
 {
-    let n = length_at(p, at);
-    if n <= s.len() {
-        fill(&mut s[..n]);
-        return &mut s[..n];
-    }
-    fill(s);
-    s
+    let n = length_at(p, at).min(s.len());
+    let part = &mut s[..n];
+    fill(part);
+    part
 }
 
 // What a lent slice holds before a call: its places modulo 251.
@@ -64,17 +56,11 @@ pub fn fill(s: &mut [u8])
     }
 }
 
-// One byte more of FNV-1a: the prime is 2^40 + 435.
+// One byte more of FNV-1a.
 fn hashed(h: u64, b: u8) -> u64
     ensures { result ≡ hash_step h b }
 {
-    let x = h ^ b as u64;
-    let low = x % 4294967296 * 435;
-    let high = x / 4294967296 % 4294967296 * 435 % 4294967296 * 4294967296;
-    std::num::wrapping_add_u64(
-        std::num::wrapping_add_u64(low, high),
-        x % 16777216 * 1099511627776,
-    )
+    (h ^ b as u64).wrapping_mul(0x100_0000_01b3)
 }
 
 pub fn hash(s: &[u8]) -> u64

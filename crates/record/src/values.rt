@@ -1,7 +1,8 @@
-// Floats, points, transforms and finders at places of records and answers.
+// Floats, points, transforms and finders at places of records and answers. Slice and place go one by one: the places are docs/REPLAY.md's, in no order that
+// a reader or writer with a place of its own would keep.
 ghost use Rattle.std.specs.Prelude.{◌≡◌, ◌+◌, ◌^◌, ◌<◌, ◌++◌, length, slice_set};
 ghost use Rattle.little_endian.specs.Bytes.{put};
-ghost use Rattle.firmware.specs.Firmware.{single_bytes, double_bytes, finder_bytes, transform_bytes, firmware_bytes};
+ghost use Rattle.firmware.specs.Firmware.{single_bytes, double_bytes, firmware_bytes};
 ghost use Rattle.record.specs.Record.{float_at, double_at, doubles_at, point_at, transform_at, lens_at, finder_at, corners_at, finders_at, flag, point_bytes, doubles_bytes, lens_bytes, finders_bytes, detections_bytes, grade_bytes, grades_bytes, grades_at};
 
 use crate::slices::rest;
@@ -39,20 +40,14 @@ pub fn put_double(out: &mut [u8], at: u32, x: f64)
 pub fn put_flag(out: &mut [u8], at: u32, b: bool)
     ensures { out.new ≡ slice_set out.old at (flag b) }
 {
-    if b {
-        little_endian::put::<u8>(out, at, 1);
-    } else {
-        little_endian::put::<u8>(out, at, 0);
-    }
+    little_endian::put::<u8>(out, at, u8::from(b));
 }
 
-// Eight numbers.
+// Eight numbers, as those of a transform.
 pub fn put_doubles(out: &mut [u8], at: u16, x: [f64; 8])
     ensures { out.new ≡ put (doubles_bytes x) at out.old }
 {
-    for (k, v) in x.iter().enumerate() {
-        put_double(out, at as u32 + 8 * k as u32, *v);
-    }
+    firmware::put_transform(out, at, Transform::plain(x));
 }
 
 // N numbers, one after the other.
@@ -101,18 +96,11 @@ pub fn lens_at(p: &[u8], at: u16) -> Transform
     }
 }
 
-pub fn put_transform(out: &mut [u8], at: u16, t: Transform)
-    ensures { out.new ≡ put (transform_bytes t) at out.old }
-{
-    let m = t.m;
-    put_doubles(out, at, m);
-}
-
 pub fn put_lens(out: &mut [u8], at: u16, t: Transform)
     ensures { out.new ≡ put (lens_bytes t) at out.old }
 {
     let i = at as u32;
-    put_transform(out, at, t);
+    firmware::put_transform(out, at, t);
     put_double(out, i + 64, t.cx);
     put_double(out, i + 72, t.cy);
     put_double(out, i + 80, t.strength);
@@ -128,16 +116,6 @@ pub fn finder_at(p: &[u8], at: u16) -> Finder
         module: float_at(p, i + 8),
         confirmations: little_endian::get::<u32>(p, i + 12),
     }
-}
-
-pub fn put_finder(out: &mut [u8], at: u16, f: Finder)
-    ensures { out.new ≡ put (finder_bytes f) at out.old }
-{
-    let i = at as u32;
-    put_float(out, i, f.x);
-    put_float(out, i + 4, f.y);
-    put_float(out, i + 8, f.module);
-    little_endian::put::<u32>(out, i + 12, f.confirmations);
 }
 
 pub fn corners_at(p: &[u8], at: u8) -> Corners
@@ -171,7 +149,7 @@ pub fn put_finders(out: &mut [u8], at: u8, t: Finders) -> usize
     let held = &t.table[..t.count.min(MAX_FINDERS)];
     little_endian::put::<u8>(out, at as u32, (t.count % 256) as u8);
     for (i, f) in held.iter().enumerate() {
-        put_finder(out, at as u16 + 1 + 16 * i as u16, *f);
+        firmware::put_finder(out, at as u16 + 1 + 16 * i as u16, *f);
     }
     at as usize + 1 + 16 * held.len()
 }

@@ -1,14 +1,14 @@
 // Records 32 to 34, 36 and 37: the finder search, the stored list, the five-run test and how a run ended.
-use binary::line;
-use binary::line::{End, Run};
+use binary::line::{End, Line, Run};
+use binary::picture::LentBits;
 use record::{slices, values};
 
 fn find_finders(p: &[u8], out: &mut [u8]) -> usize {
-    let answer = finders::find_finders(
-        slices::rest(p, 8),
-        little_endian::get::<u32>(p, 0),
-        little_endian::get::<u32>(p, 4),
-    );
+    let answer = finders::find_finders(LentBits {
+        bits: slices::rest(p, 8),
+        width: little_endian::get::<u32>(p, 0),
+        height: little_endian::get::<u32>(p, 4),
+    });
     match answer {
         Ok(found) => {
             little_endian::put::<u8>(out, 0, 0);
@@ -46,7 +46,7 @@ fn write_list(p: &[u8], out: &mut [u8]) -> usize {
         little_endian::get::<u32>(p, 4),
         slices::lent(&mut list, p, 8),
     );
-    little_endian::put::<u8>(out, 0, lcr_core::number(written.map(|_| ())));
+    little_endian::put::<u8>(out, 0, lcr_core::number(written));
     slices::put_lent(out, 1, &list, p, 8);
     13
 }
@@ -68,22 +68,19 @@ fn matches_finder(p: &[u8], out: &mut [u8]) -> usize {
 
 // The run forwards from a pixel, or the one backwards before it, of a line that starts with the rest's first pixel.
 fn limited_run(p: &[u8]) -> Run {
-    let bits = slices::rest(p, 10);
+    let line = Line {
+        bits: slices::rest(p, 10),
+        start: 0,
+        stride: 1,
+        len: little_endian::get::<u16>(p, 0),
+    };
     let from = little_endian::get::<u16>(p, 2);
     let limit = little_endian::get::<u32>(p, 4) as u64;
     let want = little_endian::get::<u8>(p, 9) == 1;
     if little_endian::get::<u8>(p, 8) == 1 {
-        return line::limited_back(bits, 0, 1, from, limit, want);
+        return line.limited_back(from, limit, want);
     }
-    line::limited_on(
-        bits,
-        0,
-        1,
-        little_endian::get::<u16>(p, 0),
-        from,
-        limit,
-        want,
-    )
+    line.limited_on(from, limit, want)
 }
 
 fn run_end(p: &[u8], out: &mut [u8]) -> usize {

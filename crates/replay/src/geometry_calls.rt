@@ -1,45 +1,39 @@
 // Records 48 to 59: linear equations, transforms, and what three finders tell.
+ghost use Rattle.std.specs.Prelude.{◌≡◌, ◌*◌, ◌≤◌};
+ghost use Rattle.lists.specs.Lists.{tabulate};
+ghost use Rattle.record.specs.Record.{doubles_at};
+
 use crate::core_calls::put_version;
 use lcr_core::version::Version;
 use record::values;
 use transform::{Point, Quad, Transform, Triangle};
 
-fn solve6(p: &[u8], out: &mut [u8]) -> usize {
-    let a: [[f64; 6]; 6] = [
-        values::doubles_at(p, 0),
-        values::doubles_at(p, 48),
-        values::doubles_at(p, 96),
-        values::doubles_at(p, 144),
-        values::doubles_at(p, 192),
-        values::doubles_at(p, 240),
-    ];
-    let s = math::solve(&a, &values::doubles_at(p, 288));
-    values::put_flag(out, 0, s.is_some());
-    let x = s.unwrap_or([0.0; 6]);
-    values::put_doubles(out, 1, [x[0], x[1], x[2], x[3], x[4], x[5], 0.0, 0.0]);
-    49
+// N rows of N numbers.
+fn rows_at<const N: usize>(p: &[u8]) -> [[f64; N]; N]
+    requires { N ≤ 8 }
+    ensures { result ≡ tabulate N (λ k. doubles_at N p.now (8 * N * k)) }
+{
+    let mut a = [[0.0; N]; N];
+    for (k, row) in a.iter_mut().enumerate() {
+        *row = values::doubles_at(p, (8 * N * k) as u16);
+    }
+    a
 }
 
-fn solve8(p: &[u8], out: &mut [u8]) -> usize {
-    let a: [[f64; 8]; 8] = [
-        values::doubles_at(p, 0),
-        values::doubles_at(p, 64),
-        values::doubles_at(p, 128),
-        values::doubles_at(p, 192),
-        values::doubles_at(p, 256),
-        values::doubles_at(p, 320),
-        values::doubles_at(p, 384),
-        values::doubles_at(p, 448),
-    ];
-    let s = math::solve(&a, &values::doubles_at(p, 512));
+fn solve<const N: usize>(p: &[u8], out: &mut [u8]) -> usize
+    requires { N ≤ 8 }
+{
+    let s = math::solve::<N>(&rows_at(p), &values::doubles_at(p, (8 * N * N) as u16));
     values::put_flag(out, 0, s.is_some());
-    values::put_doubles(out, 1, s.unwrap_or([0.0; 8]));
-    65
+    for (k, x) in s.unwrap_or([0.0; N]).iter().enumerate() {
+        values::put_double(out, 1 + 8 * k as u32, *x);
+    }
+    1 + 8 * N
 }
 
 fn put_fit(out: &mut [u8], fit: Option<Transform>) -> usize {
     values::put_flag(out, 0, fit.is_some());
-    values::put_transform(out, 1, fit.unwrap_or(Transform::zero()));
+    firmware::put_transform(out, 1, fit.unwrap_or(Transform::zero()));
     65
 }
 
@@ -120,9 +114,9 @@ fn pitch_range(p: &[u8], out: &mut [u8]) -> usize {
 fn order_finders(p: &[u8], out: &mut [u8]) -> usize {
     let c = values::corners_at(p, 0);
     let r = geometry::order_finders(c.tl, c.tr, c.bl);
-    values::put_finder(out, 0, r.tl);
-    values::put_finder(out, 16, r.tr);
-    values::put_finder(out, 32, r.bl);
+    firmware::put_finder(out, 0, r.tl);
+    firmware::put_finder(out, 16, r.tr);
+    firmware::put_finder(out, 32, r.bl);
     48
 }
 
@@ -145,7 +139,7 @@ fn build_transform(p: &[u8], out: &mut [u8]) -> usize {
         }
     };
     values::put_flag(out, 1, fit.is_some());
-    values::put_transform(out, 2, fit.unwrap_or(Transform::zero()));
+    firmware::put_transform(out, 2, fit.unwrap_or(Transform::zero()));
     66
 }
 
@@ -159,8 +153,8 @@ fn with_radial(p: &[u8], out: &mut [u8]) -> usize {
 
 pub fn answer(function: u8, p: &[u8], out: &mut [u8]) -> usize {
     match function {
-        48 => solve6(p, out),
-        49 => solve8(p, out),
+        48 => solve::<6>(p, out),
+        49 => solve::<8>(p, out),
         50 => from_quad(p, out),
         51 => from_triangle(p, out),
         52 => apply(p, out),

@@ -1,7 +1,8 @@
 // Records 64 to 67: the alignment marker.
-use lcr_core::Refusal;
+use crate::picture_at;
 use lcr_core::version::Version;
-use record::{slices, values};
+use lcr_core::{Refusal, number};
+use record::values;
 use transform::Point;
 
 // A flag, and where the marker is.
@@ -14,18 +15,14 @@ fn put_marker(out: &mut [u8], at: u8, m: Option<Point>) {
 
 // The refusal's number, or the marker.
 fn put_located(out: &mut [u8], r: Result<Option<Point>, Refusal>) -> usize {
-    match r {
-        Ok(m) => put_marker(out, 1, m),
-        Err(refusal) => little_endian::put::<u8>(out, 0, u8::from(refusal)),
-    }
+    little_endian::put::<u8>(out, 0, number(r));
+    put_marker(out, 1, r.unwrap_or(None));
     10
 }
 
 fn find_alignment(p: &[u8], out: &mut [u8]) -> usize {
     let r = rows::find_alignment(
-        slices::rest(p, 20),
-        little_endian::get::<u32>(p, 0),
-        little_endian::get::<u32>(p, 4),
+        picture_at(p, 20),
         values::point_at(p, 8),
         values::float_at(p, 16),
     );
@@ -34,9 +31,7 @@ fn find_alignment(p: &[u8], out: &mut [u8]) -> usize {
 
 fn match_alignment(p: &[u8], out: &mut [u8]) -> usize {
     let r = alignment::match_alignment(
-        slices::rest(p, 97),
-        little_endian::get::<u32>(p, 0),
-        little_endian::get::<u32>(p, 4),
+        picture_at(p, 97),
         values::lens_at(p, 8),
         Version(little_endian::get::<u8>(p, 96)),
     );
@@ -45,9 +40,7 @@ fn match_alignment(p: &[u8], out: &mut [u8]) -> usize {
 
 fn locate_alignment(p: &[u8], out: &mut [u8]) -> usize {
     let r = alignment::locate_alignment(
-        slices::rest(p, 101),
-        little_endian::get::<u32>(p, 0),
-        little_endian::get::<u32>(p, 4),
+        picture_at(p, 101),
         values::lens_at(p, 8),
         Version(little_endian::get::<u8>(p, 96)),
         values::float_at(p, 97),
@@ -57,22 +50,16 @@ fn locate_alignment(p: &[u8], out: &mut [u8]) -> usize {
 
 fn refine_alignment(p: &[u8], out: &mut [u8]) -> usize {
     let r = alignment::refine_alignment(
-        slices::rest(p, 149),
-        little_endian::get::<u32>(p, 0),
-        little_endian::get::<u32>(p, 4),
+        picture_at(p, 149),
         values::corners_at(p, 8),
         Version(little_endian::get::<u8>(p, 56)),
         values::lens_at(p, 57),
         values::float_at(p, 145),
     );
-    match r {
-        Ok(refined) => {
-            let t = refined.transform;
-            values::put_lens(out, 1, t);
-            let m = refined.marker;
-            put_marker(out, 89, m);
-        }
-        Err(refusal) => little_endian::put::<u8>(out, 0, u8::from(refusal)),
+    little_endian::put::<u8>(out, 0, number(r));
+    if let Ok(refined) = r {
+        values::put_lens(out, 1, refined.transform);
+        put_marker(out, 89, refined.marker);
     }
     98
 }

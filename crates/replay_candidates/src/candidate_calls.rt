@@ -2,23 +2,19 @@
 ghost use Rattle.std.specs.Prelude.{◌≡◌, ◌≤◌, take};
 ghost use Rattle.candidates.specs.Candidates.{from_answer};
 
+use crate::picture_at;
+use binary::picture::LentBits;
 use candidates::{Detection, Detections};
 use geometry::Finder;
-use lcr_core::Refusal;
-use record::{slices, values};
+use lcr_core::{Refusal, number};
+use record::values;
 
 // The detections of a table's first n finders, lent as a list.
-fn lend(
-    bits: &[u8],
-    width: u32,
-    height: u32,
-    list: [Finder; 512],
-    n: usize,
-) -> Result<Detections, Refusal>
+fn lend(bits: LentBits<'_>, list: [Finder; 512], n: usize) -> Result<Detections, Refusal>
     requires { n ≤ 512 }
-    ensures { result ≡ from_answer bits.now width height (take n list) }
+    ensures { let p = bits.entry in result ≡ from_answer p.bits.now p.width p.height (take n list) }
 {
-    candidates::candidates_from(bits, width, height, &list[..n])
+    candidates::candidates_from(bits, &list[..n])
 }
 
 // The finders that a record's list can have; what follows the list is read as finders too, and not lent.
@@ -32,12 +28,8 @@ fn list_at(p: &[u8]) -> [Finder; 512] {
 
 // An answer's bytes: after a refusal its number and the empty table.
 fn put_answer(out: &mut [u8], answer: Result<Detections, Refusal>) -> usize {
-    match answer {
-        Ok(found) => values::put_detections(out, 0, found),
-        Err(refusal) => {
-            values::put_detections(out, u8::from(refusal), candidates::no_detections())
-        }
-    }
+    let found = answer.unwrap_or(candidates::no_detections());
+    values::put_detections(out, number(answer), found)
 }
 
 fn candidates_from(p: &[u8], out: &mut [u8]) -> usize {
@@ -48,22 +40,12 @@ fn candidates_from(p: &[u8], out: &mut [u8]) -> usize {
     if p.len() < 12 + 16 * n {
         return 0;
     }
-    let answer = lend(
-        slices::rest(p, 12 + 16 * n),
-        little_endian::get::<u32>(p, 0),
-        little_endian::get::<u32>(p, 4),
-        list_at(p),
-        n,
-    );
+    let answer = lend(picture_at(p, 12 + 16 * n), list_at(p), n);
     put_answer(out, answer)
 }
 
 fn detect_candidates(p: &[u8], out: &mut [u8]) -> usize {
-    let answer = candidates::detect_candidates(
-        slices::rest(p, 8),
-        little_endian::get::<u32>(p, 0),
-        little_endian::get::<u32>(p, 4),
-    );
+    let answer = candidates::detect_candidates(picture_at(p, 8));
     put_answer(out, answer)
 }
 
@@ -78,11 +60,7 @@ fn table_of(first: Option<Detection>) -> Detections {
 }
 
 fn detect(p: &[u8], out: &mut [u8]) -> usize {
-    let first = candidates::detect(
-        slices::rest(p, 8),
-        little_endian::get::<u32>(p, 0),
-        little_endian::get::<u32>(p, 4),
-    );
+    let first = candidates::detect(picture_at(p, 8));
     put_answer(out, first.map(|first| table_of(first)))
 }
 

@@ -1,7 +1,10 @@
 // Runs calls from standard input and prints their answers, a line each (docs/REPLAY.md): record 96, the whole chain.
 #![tactic(auto)]
 
+use blocks::Blocks;
+use image::gray::LentPixels;
 use record::{slices, values};
+use stages::Slices;
 
 fn chain(p: &[u8], out: &mut [u8]) -> usize {
     if !slices::lendable(p, 13, 8) {
@@ -15,27 +18,29 @@ fn chain(p: &[u8], out: &mut [u8]) -> usize {
     let mut greatest = [0u8; slices::LONGEST];
     let mut edges = [0u8; slices::LONGEST];
     let mut nears = [0u8; slices::LONGEST];
-    let answer = chain::chain(
-        slices::rest(p, 45),
-        little_endian::get::<u32>(p, 0),
-        little_endian::get::<u32>(p, 4),
-        little_endian::get::<u32>(p, 8),
-        little_endian::get::<u8>(p, 12),
-        slices::lent(&mut gray, p, 13),
-        slices::lent(&mut bits, p, 17),
-        slices::lent(&mut denoised, p, 21),
-        slices::lent(&mut means, p, 25),
-        slices::lent(&mut least, p, 29),
-        slices::lent(&mut greatest, p, 33),
-        slices::lent(&mut edges, p, 37),
-        slices::lent(&mut nears, p, 41),
-    );
-    let end = match answer {
-        Ok(found) => values::put_detections(out, 0, found),
-        Err(refusal) => {
-            values::put_detections(out, u8::from(refusal), candidates::no_detections())
-        }
+    let pixels = LentPixels {
+        data: slices::rest(p, 45),
+        width: little_endian::get::<u32>(p, 0),
+        height: little_endian::get::<u32>(p, 4),
+        stride: little_endian::get::<u32>(p, 8),
+        format: little_endian::get::<u8>(p, 12),
     };
+    let mut blocks = Blocks {
+        means: slices::lent(&mut means, p, 25),
+        least: slices::lent(&mut least, p, 29),
+        greatest: slices::lent(&mut greatest, p, 33),
+        edges: slices::lent(&mut edges, p, 37),
+        nears: slices::lent(&mut nears, p, 41),
+    };
+    let mut lent = Slices {
+        gray: slices::lent(&mut gray, p, 13),
+        bits: slices::lent(&mut bits, p, 17),
+        denoised: slices::lent(&mut denoised, p, 21),
+        blocks: &mut blocks,
+    };
+    let answer = chain::chain(pixels, &mut lent);
+    let found = answer.unwrap_or(candidates::no_detections());
+    let end = values::put_detections(out, lcr_core::number(answer), found);
     let at = (end % 1024) as u16;
     slices::put_lent(out, at, &gray, p, 13);
     slices::put_lent(out, at + 12, &bits, p, 17);

@@ -1,6 +1,10 @@
 // Runs calls from standard input and prints their answers, a line each (docs/REPLAY.md): records 16 to 18.
 #![tactic(auto)]
 
+use binary::picture::LentBits;
+use blocks::Blocks;
+use blocks::picture::LentGray;
+use image::gray::LentPixels;
 use record::slices;
 
 fn gray_buffer(p: &[u8], out: &mut [u8]) -> usize {
@@ -8,14 +12,14 @@ fn gray_buffer(p: &[u8], out: &mut [u8]) -> usize {
         return 0;
     }
     let mut gray = [0u8; slices::LONGEST];
-    let r = image::gray::gray_buffer(
-        slices::rest(p, 17),
-        little_endian::get::<u32>(p, 0),
-        little_endian::get::<u32>(p, 4),
-        little_endian::get::<u32>(p, 8),
-        little_endian::get::<u8>(p, 12),
-        slices::lent(&mut gray, p, 13),
-    );
+    let pixels = LentPixels {
+        data: slices::rest(p, 17),
+        width: little_endian::get::<u32>(p, 0),
+        height: little_endian::get::<u32>(p, 4),
+        stride: little_endian::get::<u32>(p, 8),
+        format: little_endian::get::<u8>(p, 12),
+    };
+    let r = image::gray::gray_buffer(pixels, slices::lent(&mut gray, p, 13));
     little_endian::put::<u8>(out, 0, lcr_core::number(r));
     slices::put_lent(out, 1, &gray, p, 13);
     13
@@ -31,17 +35,19 @@ fn binarize(p: &[u8], out: &mut [u8]) -> usize {
     let mut greatest = [0u8; slices::LONGEST];
     let mut edges = [0u8; slices::LONGEST];
     let mut nears = [0u8; slices::LONGEST];
-    let r = binarize::binarize(
-        slices::rest(p, 32),
-        little_endian::get::<u32>(p, 0),
-        little_endian::get::<u32>(p, 4),
-        slices::lent(&mut means, p, 12),
-        slices::lent(&mut least, p, 16),
-        slices::lent(&mut greatest, p, 20),
-        slices::lent(&mut edges, p, 24),
-        slices::lent(&mut nears, p, 28),
-        slices::lent(&mut bits, p, 8),
-    );
+    let lent = LentGray {
+        gray: slices::rest(p, 32),
+        width: little_endian::get::<u32>(p, 0),
+        height: little_endian::get::<u32>(p, 4),
+    };
+    let mut blocks = Blocks {
+        means: slices::lent(&mut means, p, 12),
+        least: slices::lent(&mut least, p, 16),
+        greatest: slices::lent(&mut greatest, p, 20),
+        edges: slices::lent(&mut edges, p, 24),
+        nears: slices::lent(&mut nears, p, 28),
+    };
+    let r = binarize::binarize(lent, &mut blocks, slices::lent(&mut bits, p, 8));
     little_endian::put::<u8>(out, 0, lcr_core::number(r));
     slices::put_lent(out, 1, &bits, p, 8);
     slices::put_blocks(out, 13, p, 12, &means, &least, &greatest, &edges, &nears);
@@ -53,12 +59,12 @@ fn denoised(p: &[u8], out: &mut [u8]) -> usize {
         return 0;
     }
     let mut bits = [0u8; slices::LONGEST];
-    let r = image::denoise::denoised(
-        slices::rest(p, 12),
-        little_endian::get::<u32>(p, 0),
-        little_endian::get::<u32>(p, 4),
-        slices::lent(&mut bits, p, 8),
-    );
+    let lent = LentBits {
+        bits: slices::rest(p, 12),
+        width: little_endian::get::<u32>(p, 0),
+        height: little_endian::get::<u32>(p, 4),
+    };
+    let r = image::denoise::denoised(lent, slices::lent(&mut bits, p, 8));
     little_endian::put::<u8>(out, 0, lcr_core::number(r));
     slices::put_lent(out, 1, &bits, p, 8);
     13

@@ -1,4 +1,4 @@
--- A row is searched from dark run to dark run, which visits what the definition visits. Assumes nothing.
+-- A row, the line f, is searched from dark run to dark run, which visits what the definition visits. Assumes nothing.
 use Rattle.std.specs.Prelude.{Option}
 use mathlib.Core.Path.{◌≡◌, refl, sym, ap, ◌∙◌}
 use mathlib.Core.Logic.{inl, inr}
@@ -15,16 +15,13 @@ use Rattle.rows.specs.Rows.{starts_at, row_runs, confirmed, seen_of, nearer_of, 
 use Rattle.rows.specs.declared.search.Runs.{Runs}
 use Rattle.rows.proofs.Walks.{At, some_dark, walk_next, none_starts, fold_skip}
 
-module _ (bits : List ℕ) (w h first end : ℕ) (p : Point) (m : Float) (y : ℕ) where
+module _ (bits : List ℕ) (w h first end : ℕ) (p : Point) (m : Float) (y : ℕ) (f : ℕ → Bool) (line : f ≡ row bits w y) where
   abbrev step : Option Point → ℕ → Option Point
   step = visit bits w h first end p m y
 
-  abbrev f : ℕ → Bool
-  f = row bits w y
-
   unseen : (b : Option Point) (k : ℕ) → starts_at f k ≡ false → step b k ≡ b
   unfolding seen_of nearer_of
-  unseen b k e = rw e
+  unseen b k e = rw (← line, e)
 
   skipped : (b : Option Point) (k x : ℕ) → k ≤ x → x ≤ end → ((i : ℕ) → k ≤ i → i < x → starts_at f i ≡ false) → folded step b (range k end) ≡ folded step b (range x end)
   skipped b k x l n e =
@@ -59,9 +56,13 @@ module _ (bits : List ℕ) (w h first end : ℕ) (p : Point) (m : Float) (y : �
     pub walks : At f first end (x + r.dark + r.after) r.after
     walks = walk_next f first end x r.dark r.after inside n (inr (a.starts n).0) dark_is after_is s t
 
+    starts : starts_at f x ≡ true
+    unfolding starts_at
+    starts = rw ((a.starts n).0, (a.starts n).1)
+
     seen : confirmed bits w h m y r ≡ seen_of bits w h first end m y x
-    unfolding seen_of starts_at
-    seen = ap (confirmed bits w h m y) q ∙ rw ((a.starts n).0, (a.starts n).1)
+    unfolding seen_of
+    seen = ap (confirmed bits w h m y) q ∙ rw (← line, starts)
 
     pub folds : (g c : Option Point) → g ≡ confirmed bits w h m y r → c ≡ nearer_of p b g → whole ≡ folded step c (range (x + r.dark + r.after) end)
     folds g c o k =

@@ -4,7 +4,7 @@
 ghost use Rattle.std.specs.Prelude.{◌≡◌};
 ghost use Rattle.rows.specs.Rows.{find_of};
 
-use binary::refusal::check_bits;
+use binary::picture::LentBits;
 use lcr_core::Refusal;
 use search::Search;
 use transform::Point;
@@ -15,20 +15,16 @@ mod window;
 
 // The marker by runs along rows, nearest to the predicted place, or none.
 pub fn find_alignment(
-    bits: &[u8],
-    width: u32,
-    height: u32,
+    bits: LentBits<'_>,
     predicted: Point,
     module: f32,
 ) -> Result<Option<Point>, Refusal>
-    ensures { result ≡ find_of bits.now width height predicted «module» }
+    ensures { let p = bits.entry in result ≡ find_of p.bits.now p.width p.height predicted «module» }
 {
-    check_bits(bits.len(), width, height)?;
+    let picture = bits.checked()?;
     let search = Search {
-        bits,
-        width,
-        height,
-        window: window_about(predicted, module, width as u16, height as u16),
+        picture,
+        window: window_about(predicted, module, picture.width, picture.height),
         predicted,
         module,
     };

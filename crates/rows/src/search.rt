@@ -1,11 +1,11 @@
 // The runs of a row and of a column, and the nearest marker.
 ghost use Rattle.std.specs.Prelude.{◌≡◌, false, ◌+◌, ◌-◌, ◌*◌, ◌≤◌, ◌<◌};
-ghost use Rattle.binary.specs.Line.{pixel, run_back};
+ghost use Rattle.binary.specs.Line.{pixel, column, run_back};
 ghost use Rattle.rows.specs.Rows.{near_one, matches_of, middle_of, column_runs, limit_of, confirm_of, confirmed, row_runs, nearer_of, row_nearest, nearest_of};
 
-use crate::window::{Window, least};
-use binary::dark;
-use binary::line::{run_back, run_on};
+use crate::window::Window;
+use binary::line::Line;
+use binary::picture::BitPicture;
 use float::{Float, to_u32};
 use transform::{Point, distance2};
 
@@ -69,48 +69,42 @@ fn nearer(p: Point, best: Option<Point>, seen: Option<Point>) -> Option<Point>
 // A picture and its part that is searched, with the place and the module that are predicted.
 #[derive(Clone, Copy)]
 pub struct Search<'a> {
-    pub bits: &'a [u8],
-    pub width: u32,
-    pub height: u32,
+    pub picture: BitPicture<'a>,
     pub window: Window,
     pub predicted: Point,
     pub module: f32,
-    pub ghost narrow: { width ≤ 4096 },
-    pub ghost low: { height ≤ 4096 },
-    pub ghost inside: { window.bottom ≤ height },
+    pub ghost narrow: { picture.width ≤ 4096 },
+    pub ghost inside: { window.bottom ≤ picture.height },
 }
 
 impl<'a> Search<'a> {
     // The runs about a dark pixel y of column x, each of three modules and 3 pixels at most from there.
-    fn column_runs(&self, x: u32, y: u16) -> Runs
-        requires { y < self.now.height }
-        ensures { let s = self.now in result ≡ column_runs (pixel s.bits.now x s.width) s.height y (limit_of s.«module») }
+    fn column_runs(&self, x: u16, y: u16) -> Runs
+        requires { y < self.now.picture.height }
+        ensures { let s = self.now in let p = s.picture in result ≡ column_runs (column p.bits.now p.width x) p.height y (limit_of s.«module») }
     {
-        let bits = self.bits;
-        let width = self.width;
-        let height = self.height as u16;
+        let pixels = self.picture.column(x);
         let limit = limit_of(self.module);
-        let up = run_back(bits, x, width, y, least(limit, y), true);
-        let below = y + 1;
-        let down = run_on(bits, x, width, below, least(limit, height - below), true);
+        let up = pixels.limited_back(y, limit, true).count;
+        let down = pixels.limited_on(y + 1, limit, true).count;
         let top = y - up;
-        let next = below + down;
+        let next = y + 1 + down;
         Runs {
-            before: run_back(bits, x, width, top, least(limit, top), false),
+            before: pixels.limited_back(top, limit, false).count,
             dark: up + down + 1,
-            after: run_on(bits, x, width, next, least(limit, height - next), false),
+            after: pixels.limited_on(next, limit, false).count,
             start: top,
         }
     }
 
     // The marker with its centre at cx, confirmed down the column from row y.
     fn confirm_alignment_vertical(&self, cx: f32, y: u16) -> Option<Point>
-        requires { y < self.now.height }
-        ensures { let s = self.now in result ≡ confirm_of s.bits.now s.width s.height s.«module» y cx }
+        requires { y < self.now.picture.height }
+        ensures { let s = self.now in result ≡ confirm_of s.picture.bits.now s.picture.width s.picture.height s.«module» y cx }
     {
         let x = to_u32(cx);
-        if dark(self.bits, self.width, self.height, x, y as u32) {
-            let r = self.column_runs(x, y);
+        if self.picture.dark(x, y as u32) {
+            let r = self.column_runs(x as u16, y);
             if r.matches_alignment(self.module) {
                 return Some(Point {
                     x: cx,
@@ -123,8 +117,8 @@ impl<'a> Search<'a> {
 
     // The marker whose runs along row y are r.
     fn shown(&self, y: u16, r: Runs) -> Option<Point>
-        requires { y < self.now.height }
-        ensures { let s = self.now in result ≡ confirmed s.bits.now s.width s.height s.«module» y r }
+        requires { y < self.now.picture.height }
+        ensures { let s = self.now in result ≡ confirmed s.picture.bits.now s.picture.width s.picture.height s.«module» y r }
     {
         if r.matches_alignment(self.module) {
             return self.confirm_alignment_vertical(r.middle(), y);
@@ -133,15 +127,15 @@ impl<'a> Search<'a> {
     }
 
     // The dark run that starts at pixel x of a row, and the light runs before it, which is known, and after it, within the window's columns.
-    fn row_runs(&self, row: u32, x: u16, before: u16) -> Runs
-        requires { let s = self.now in (s.window.first < x) × (x < s.window.end) × (before ≡ run_back false (pixel s.bits.now row 1) x (x - s.window.first)) }
-        ensures value { let s = self.now in result ≡ row_runs (pixel s.bits.now row 1) s.window.first s.window.end x }
+    fn row_runs(&self, row: Line<'_>, x: u16, before: u16) -> Runs
+        requires { let v = self.now.window in (v.first < x) × (x < v.end) × (before ≡ run_back false (pixel row.bits.now row.start row.stride) x (x - v.first)) }
+        ensures value { let v = self.now.window in let l = row.entry in result ≡ row_runs (pixel l.bits.now l.start l.stride) v.first v.end x }
         ensures dark_bound { let end = self.now.window.end in (result.dark ≤ end - x) × (result.after ≤ end - (x + result.dark)) }
     {
         let end = self.window.end;
-        let dark = run_on(self.bits, row, 1, x, end - x, true);
+        let dark = row.run_on(x, end - x, true);
         let next = x + dark;
-        let after = run_on(self.bits, row, 1, next, end - next, false);
+        let after = row.run_on(next, end - next, false);
         Runs {
             before,
             dark,
@@ -152,17 +146,17 @@ impl<'a> Search<'a> {
 
     // Row y, from dark run to dark run.
     fn search_row(&self, best: Option<Point>, y: u16) -> Option<Point>
-        requires { y < self.now.height }
-        ensures { let s = self.now in result ≡ row_nearest s.bits.now s.width s.height s.window.first s.window.end s.predicted s.«module» best y }
+        requires { y < self.now.picture.height }
+        ensures { let s = self.now in result ≡ row_nearest s.picture.bits.now s.picture.width s.picture.height s.window.first s.window.end s.predicted s.«module» best y }
     {
         let first = self.window.first;
         let end = self.window.end;
         if end <= first {
             return best;
         }
-        let row = y as u32 * self.width;
-        let left = first + run_on(self.bits, row, 1, first, end - first, true);
-        let mut light = run_on(self.bits, row, 1, left, end - left, false);
+        let row = self.picture.row(y);
+        let left = first + row.run_on(first, end - first, true);
+        let mut light = row.run_on(left, end - left, false);
         let mut x = left + light;
         let mut nearest = best;
         // A `while`, since a step is as long as the two runs that the pixels show.
@@ -177,7 +171,7 @@ impl<'a> Search<'a> {
 
     // The marker nearest to the predicted place in the window.
     pub fn nearest_marker(&self) -> Option<Point>
-        ensures { let s = self.now in result ≡ nearest_of s.bits.now s.width s.height s.window s.predicted s.«module» }
+        ensures { let s = self.now in result ≡ nearest_of s.picture.bits.now s.picture.width s.picture.height s.window s.predicted s.«module» }
     {
         let mut nearest = None;
         for y in self.window.top..self.window.bottom {

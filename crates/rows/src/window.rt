@@ -16,7 +16,7 @@ pub struct Window {
 }
 
 // a, n at most.
-pub fn least(a: u64, n: u16) -> u16
+fn least(a: u64, n: u16) -> u16
     ensures value { result ≡ min a n }
     ensures upper_bound { result ≤ n }
 {

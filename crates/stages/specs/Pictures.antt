@@ -43,7 +43,7 @@ module _ (p : List ℕ) (w h s f : ℕ) where
 
 -- after 0, and after 6, which is given behind the stages, a list is written; else all is as it was
 unfoldable pub left_after : ℕ → List ℕ → List ℕ → List ℕ
-left_after n new old = cond (eqb n (0) || eqb n (refusal_number FullTable)) (written new old) old
+left_after n new old = cond (eqb n 0 || eqb n (refusal_number FullTable)) (written new old) old
 
 -- each slice, where p is the picture and n the number answered
 module _ (n : ℕ) (p : List ℕ) (w h s f : ℕ) where

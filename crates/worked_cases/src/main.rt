@@ -1,6 +1,8 @@
 // Document 01's cases that a program runs: the spread that makes an edge, and the version of an estimated side.
 #![tactic(auto)]
 
+use blocks::Blocks;
+use blocks::picture::LentGray;
 use geometry::{Corners, Finder};
 
 // The edge mark of a block of 8 × 8 pixels of gray 100, but for one of gray `other`.
@@ -12,16 +14,19 @@ fn edge_mark(other: u8) -> u8 {
     let mut greatest = [0u8; 1];
     let mut edges = [7u8; 1];
     let mut nears = [0u8; 1];
-    let _ = blocks::block_values(
-        &gray,
-        8,
-        8,
-        &mut means,
-        &mut least,
-        &mut greatest,
-        &mut edges,
-        &mut nears,
-    );
+    let lent = LentGray {
+        gray: &gray,
+        width: 8,
+        height: 8,
+    };
+    let mut blocks = Blocks {
+        means: &mut means,
+        least: &mut least,
+        greatest: &mut greatest,
+        edges: &mut edges,
+        nears: &mut nears,
+    };
+    let _ = blocks::block_values(lent, &mut blocks);
     edges[0]
 }
 

@@ -17,11 +17,11 @@ put_picture-requires c =
     let p = blocks.passes _ _ _ _ _ _ _ _ q.values in
     (omega arith, omega arith, omega arith, q.bits)
 
-pub returns-clause-bits_after : goal.returns-clause-bits_after
-returns-clause-bits_after c =
+pub returns-clause-bits : goal.returns-clause-bits
+returns-clause-bits c =
     let a = c.args in
     let e = c.block_values.ensures in
     let z = e.refusal ∙ c.requires.values in
     c.put_picture.ensures
     ∙ bytes_same _ _ _ _
-    (dark_same _ _ _ _ _ _ a.gray.now a.width a.height (at-filled _ _ _ _ (e.means ∙ sym (unless_done _ _ _ z))) (at-filled _ _ _ _ (e.edges ∙ sym (unless_done _ _ _ z))) (at-filled _ _ _ _ (e.nears ∙ sym (unless_done _ _ _ z))))
+    (dark_same _ _ _ _ _ _ a.gray.gray.now a.gray.width a.gray.height (at-filled _ _ _ _ (e.means ∙ sym (unless_done _ _ _ z))) (at-filled _ _ _ _ (e.edges ∙ sym (unless_done _ _ _ z))) (at-filled _ _ _ _ (e.nears ∙ sym (unless_done _ _ _ z))))

@@ -8,14 +8,14 @@ use Rattle.ranking.specs.Ranking.{in_use}
 use Rattle.candidates.specs.Candidates.{table_of, detections_of, from_answer}
 use Rattle.candidates.proofs.candidates_in.Goals as goal
 
-pub returns-in_err-check_bits : goal.returns-in_err-check_bits
+pub returns-in_err-checked : goal.returns-in_err-checked
 unfolding from_answer bits_refusal
-returns-in_err-check_bits c =
-    let a = c.args in
-    refused_by _ _ c.from_residual.ensures.1 (bits_checks (length a.bits.now) a.width a.height) (table_of (detections_of a.bits.now a.width a.height (in_use a.t))) c.in_err-check_bits.ensures
+returns-in_err-checked c =
+    let p = c.args.bits in
+    refused_by _ _ c.from_residual.ensures.1 (bits_checks (length p.bits.now) p.width p.height) (table_of (detections_of p.bits.now p.width p.height (in_use c.args.t))) c.in_err-checked.ensures.number
 
 pub returns : goal.returns
 unfolding from_answer bits_refusal
 returns c =
-    let a = c.args in
-    ap Ok c.built_triples.ensures ∙ checked_passed (bits_checks (length a.bits.now) a.width a.height) _ c.in_ok-check_bits.ensures
+    let p = c.args.bits in
+    ap Ok c.built_triples.ensures ∙ checked_passed (bits_checks (length p.bits.now) p.width p.height) _ c.in_ok-checked.ensures.number

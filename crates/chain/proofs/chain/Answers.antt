@@ -1,27 +1,33 @@
 -- `chain::chain` meets its contract. Assumes nothing.
 use mathlib.Core.Path.{refl, ◌∙◌}
-use mathlib.Core.List.{[], ◌∷◌}
 use lib.ListN.{length}
-use Rattle.lcr_core.proofs.Checks.{same_number}
+use Rattle.std.specs.Prelude.{map}
 use Rattle.stages.specs.Stages.{stages_checks, stages_refusal}
+use Rattle.stages.specs.Lent.{work_in}
 use Rattle.chain.proofs.Behind.{behind_by, behind_passed}
-use Rattle.chain.proofs.Chained.{chained, left_as, left_done}
+use Rattle.chain.proofs.Chained.{chained, left_done}
 use Rattle.chain.proofs.chain.Goals as goal
 
-pub returns-in_err-stages : goal.returns-in_err-stages
+pub returns-in_err-stages-clause-answer : goal.returns-in_err-stages-clause-answer
 unfolding stages_refusal
-returns-in_err-stages c =
-    let a = c.args in
-    let s = c.in_err-stages.ensures in
-    let n = same_number _ _ c.from_residual.ensures.1 in
-    let k = left_as _ _ n in
-    record { answer = behind_by _ _ _ _ _ _ _ c.from_residual.ensures.1 (stages_checks (length a.picture.now) a.width a.height a.stride a.format (length a.gray.now) (length a.bits.now) (length a.denoised.now) (length a.means.now ∷ length a.least.now ∷ length a.greatest.now ∷ length a.edges.now ∷ length a.nears.now ∷ [])) s.refusal; gray = k _ _ _ s.gray; bits = k _ _ _ s.bits; denoised = k _ _ _ s.denoised; means = k _ _ _ s.means; least = k _ _ _ s.least; greatest = k _ _ _ s.greatest; edges = k _ _ _ s.edges; nears = k _ _ _ s.nears }
+returns-in_err-stages-clause-answer c =
+    let p = c.args.pixels in
+    let s = c.args.slices.now in
+    behind_by _ _ _ _ _ _ _ c.from_residual.ensures.1 (stages_checks (length p.«data».now) p.width p.height p.stride p.format (length s.gray.now) (length s.bits.now) (length s.denoised.now) (map length (work_in s.blocks.now))) c.in_err-stages.ensures.refusal
 
-pub returns : goal.returns
+pub returns-clause-answer : goal.returns-clause-answer
 unfolding stages_refusal
-returns c =
-    let b = c.args in
-    let s = c.in_ok-stages.ensures in
-    let a = chained _ _ _ _ _ _ refl _ _ s.denoised _ c.detect_candidates.ensures in
-    let k = left_done _ _ _ _ _ _ _ _ _ _ s.refusal _ _ refl a in
-    record { answer = a ∙ behind_passed _ _ _ _ _ (stages_checks (length b.picture.now) b.width b.height b.stride b.format (length b.gray.now) (length b.bits.now) (length b.denoised.now) (length b.means.now ∷ length b.least.now ∷ length b.greatest.now ∷ length b.edges.now ∷ length b.nears.now ∷ [])) s.refusal; gray = k _ _ _ s.gray; bits = k _ _ _ s.bits; denoised = k _ _ _ s.denoised; means = k _ _ _ s.means; least = k _ _ _ s.least; greatest = k _ _ _ s.greatest; edges = k _ _ _ s.edges; nears = k _ _ _ s.nears }
+returns-clause-answer c =
+    let p = c.args.pixels in
+    let s = c.args.slices.now in
+    let e = c.in_ok-stages.ensures in
+    chained _ _ _ _ _ _ refl _ _ e.left.denoised _ c.detect_candidates.ensures
+    ∙ behind_passed _ _ _ _ _ (stages_checks (length p.«data».now) p.width p.height p.stride p.format (length s.gray.now) (length s.bits.now) (length s.denoised.now) (map length (work_in s.blocks.now))) e.refusal
+
+pub returns-clause-left : goal.returns-clause-left
+returns-clause-left c =
+    let e = c.in_ok-stages.ensures in
+    let g = e.left in
+    let a = chained _ _ _ _ _ _ refl _ _ g.denoised _ c.detect_candidates.ensures in
+    let k = left_done _ _ _ _ _ _ _ _ _ _ e.refusal _ _ refl a in
+    record { gray = k _ _ _ g.gray; bits = k _ _ _ g.bits; denoised = k _ _ _ g.denoised; means = k _ _ _ g.means; least = k _ _ _ g.least; greatest = k _ _ _ g.greatest; edges = k _ _ _ g.edges; nears = k _ _ _ g.nears }

@@ -1,5 +1,5 @@
 -- `record::answer_line` meets its contract. Assumes nothing.
-use Rattle.std.proofs.Common.{refl, arith, ne_eqb}
+use Rattle.std.proofs.Common.{ne_eqb}
 use Rattle.little_endian.specs.Bytes.{put}
 use Rattle.record.proofs.Parts.{dash_line, some_line}
 use Rattle.record.proofs.answer_line.Goals as goal
@@ -7,9 +7,6 @@ use Rattle.record.proofs.answer_line.Goals as goal
 pub returns-then-n-eq0 : goal.returns-then-n-eq0
 unfolding put
 returns-then-n-eq0 c = dash_line c.args.n c.args.out.now c.if-n-eq0.true
-
-pub spell-len-requires : goal.spell-len-requires
-spell-len-requires c = (omega arith, refl)
 
 pub returns : goal.returns
 returns c =

@@ -1,20 +1,9 @@
 -- `record::read` meets its contract. Assumes nothing.
-use Rattle.std.proofs.Common.{◌≤◌, length, arith, length-take}
+use Rattle.std.proofs.Common.{◌≤◌, length, arith}
 use Rattle.record.specs.Record.{fixed_part}
 use Rattle.record.proofs.FixedParts.{asked_fits}
 use Rattle.record.proofs.SliceLaws.{kept_long, kept_rest}
 use Rattle.record.proofs.read.Goals as goal
-
-pub slice_bounds-read_full-end-3 : goal.slice_bounds-read_full-end-3
-slice_bounds-read_full-end-3 c = simp length-take (omega arith)
-
-pub returns-then-read_full-len : goal.returns-then-read_full-len
-returns-then-read_full-len c =
-    let l = c.args.payload.now in
-    let n = c.get-len.result in
-    let p = c.read_full-2.new.buf in
-    let h : n ≤ length l = omega (arith, c.if-payload-len.false) in
-    (kept_long n l p h c.read_full-2.auto.buf, tt)
 
 pub returns : goal.returns
 returns c =

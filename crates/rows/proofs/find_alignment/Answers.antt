@@ -15,22 +15,19 @@ use Rattle.rows.proofs.find_alignment.Goals as goal
 sides : (len w h : ℕ) → 0 ≡ bits_refusal len w h → Sides w h
 sides len w h e = (bits_pass len w h (sym e)).0
 
-pub returns-in_err-check_bits : goal.returns-in_err-check_bits
+pub returns-in_err-picture : goal.returns-in_err-picture
 unfolding find_of bits_refusal
-returns-in_err-check_bits c = let a = c.args in refused_by _ _ c.from_residual.ensures.1 (bits_checks (length a.bits.now) a.width a.height) _ c.in_err-check_bits.ensures
-
-pub overflow_cast-width : goal.overflow_cast-width
-overflow_cast-width c = omega (arith, sides _ _ _ c.in_ok-check_bits.ensures)
-
-pub overflow_cast-height : goal.overflow_cast-height
-overflow_cast-height c = omega (arith, sides _ _ _ c.in_ok-check_bits.ensures)
+returns-in_err-picture c = let p = c.args.bits in refused_by _ _ c.from_residual.ensures.1 (bits_checks (length p.bits.now) p.width p.height) _ c.in_err-picture.ensures.number
 
 pub window_about-requires : goal.window_about-requires
-window_about-requires c = (sides _ _ _ c.in_ok-check_bits.ensures).w_pos
+window_about-requires c = omega (arith, sides _ _ _ c.in_ok-picture.ensures.number, c.in_ok-picture.ensures.picture)
 
 pub invariant_of-search : goal.invariant_of-search
-invariant_of-search c = let s = sides _ _ _ c.in_ok-check_bits.ensures in record { narrow = s.w_most; low = s.h_most; inside = c.window_about.ensures.bottom_le_height }
+invariant_of-search c =
+    record { narrow = omega (arith, sides _ _ _ c.in_ok-picture.ensures.number, c.in_ok-picture.ensures.picture); inside = c.window_about.ensures.bottom_le_height }
 
 pub returns : goal.returns
 unfolding find_of bits_refusal
-returns c = ap Ok (rw (← c.window_about.ensures.value) c.nearest_marker.ensures) ∙ checked_passed (bits_checks _ _ _) _ c.in_ok-check_bits.ensures
+returns c =
+    let q = c.in_ok-picture.ensures.picture in
+    ap Ok (rw (← q.0, ← q.1, ← q.2, ← c.window_about.ensures.value) c.nearest_marker.ensures) ∙ checked_passed (bits_checks _ _ _) _ c.in_ok-picture.ensures.number

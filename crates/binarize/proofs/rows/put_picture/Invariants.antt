@@ -10,4 +10,6 @@ use Rattle.binarize.proofs.rows.put_picture.Given as goal
 abbrev pub invariant-loop-y : goal.invariant-loop-y
 invariant-loop-y l =
     let p = l.picture in
-    (length l.levels ≡ 512) × Written (dark_by (at l.means) (at l.edges) (at l.nears) p.gray.now p.width p.height) (min p.height (l.y * 8) * p.width) l.initial.bits l.bits l.acc
+    let b = l.blocks in
+    (length l.levels ≡ 512) × (l.writer.bits.ghost_name ≡ l.initial.writer.bits.ghost_name) × (length l.writer.bits.now ≡ length l.fn.bits)
+    × Written (dark_by (at b.means.now) (at b.edges.now) (at b.nears.now) p.gray.now p.width p.height) (min p.height (l.y * 8) * p.width) l.fn.bits l.writer.bits.now l.writer.pending

@@ -1,23 +1,10 @@
-use Prim.Native.Nat.{◌+◌, ◌-◌}
 use mathlib.Core.Path.{◌≡◌, sym, ◌∙◌}
 use native.Mathlib.Omega.{arith}
 use Rattle.lists.specs.Lists.{range}
-use Rattle.lists.proofs.Numbers.{next_row}
-use Rattle.lists.proofs.Folds.{fold_more, fold_end}
+use Rattle.lists.proofs.Folds.{fold_end}
 use Rattle.blocks.specs.Steps.{row_step, column_step, cell_step}
 use Rattle.blocks.proofs.Grids.{folded-cells}
 use Rattle.blocks.proofs.stats.rect_stats.Goals as goal
-
-pub loop-y-preserved : goal.loop-y-preserved
-unfolding row_step
-loop-y-preserved c =
-    let l = c.loop-y in
-    let a = c.args in
-    let r = a.rect in
-    let e : l.y + 1 - r.top ≡ (l.y - r.top) + 1 = omega arith in (
-      fold_more (row_step a.s.now a.w r.left r.right) _ _ _ l.y r.bottom (omega arith) l.invariant.0 c.row_stats-t.ensures.0,
-      rw (e, next_row) (omega arith),
-    )
 
 pub returns : goal.returns
 unfolding row_step column_step

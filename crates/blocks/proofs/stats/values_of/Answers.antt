@@ -1,11 +1,6 @@
 -- `blocks::stats::values_of` meets its contract. Assumes nothing.
-use native.Mathlib.Omega.{arith}
-use Rattle.lists.proofs.Numbers.{mean_small}
 use Rattle.blocks.proofs.Measures.{block_is}
 use Rattle.blocks.proofs.stats.values_of.Goals as goal
-
-pub overflow_cast-result-2 : goal.overflow_cast-result-2
-overflow_cast-result-2 c = omega (arith, mean_small _ _ c.rect_stats-t.ensures.1)
 
 pub returns : goal.returns
 returns c = let p = c.args.picture in block_is p.gray.now p.width p.height _ c.block-block.result _ c.block-block.ensures c.rect_stats-t.ensures.0

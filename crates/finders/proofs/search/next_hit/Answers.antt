@@ -8,7 +8,7 @@ use Rattle.finders.proofs.search.next_hit.Goals as goal
 turn : (c : After-run_on-dark) →
     let a = c.args in
     let w = c.loop-w.w in
-    Turn (pixel a.bits.now a.start a.stride) a.len w.c w.d w.e w.at c.run_on-light.result c.run_on-dark.result
+    Turn (pixel a.line.bits.now a.line.start a.line.stride) a.line.len w.c w.d w.e w.at c.run_on-light.result c.run_on-dark.result
 turn c = record {
   here = omega (arith, c.loop-w-test.true);
   fit = c.loop-w.invariant.fits.1;

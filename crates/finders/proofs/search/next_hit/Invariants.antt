@@ -6,10 +6,10 @@ use Rattle.finders.proofs.search.next_hit.Given as goal
 
 abbrev pub invariant-loop-w : goal.invariant-loop-w
 invariant-loop-w l = record {
-  fits : FitsIn l.len l.w;
+  fits : FitsIn l.line.len l.w;
   on : l.initial.w.at ≤ l.w.at;
-  left : hits_after (pixel l.bits l.start l.stride) l.len l.initial.w ≡ hits_after (pixel l.bits l.start l.stride) l.len l.w;
+  left : hits_after (pixel l.line.bits.now l.line.start l.line.stride) l.line.len l.initial.w ≡ hits_after (pixel l.line.bits.now l.line.start l.line.stride) l.line.len l.w;
 }
 
 abbrev pub decreases-loop-w : goal.decreases-loop-w
-decreases-loop-w l = l.len - l.w.at
+decreases-loop-w l = l.line.len - l.w.at

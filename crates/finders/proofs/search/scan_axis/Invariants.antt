@@ -9,6 +9,6 @@ use Rattle.finders.proofs.search.scan_axis.Given as goal
 abbrev pub invariant-loop-k : goal.invariant-loop-k
 invariant-loop-k l = record {
   good : Good l.t (axis_most + line_most * l.k);
-  left : folded (scanned_at l.bits l.width l.height l.columns) (held (held_in l.initial.t)) (range 0 l.half)
-      ≡ folded (scanned_at l.bits l.width l.height l.columns) (held (held_in l.t)) (range l.k l.half);
+  left : folded (scanned_at l.picture.bits.now l.picture.width l.picture.height l.columns) (held (held_in l.initial.t)) (range 0 l.half)
+      ≡ folded (scanned_at l.picture.bits.now l.picture.width l.picture.height l.columns) (held (held_in l.t)) (range l.k l.half);
 }

@@ -1,12 +1,12 @@
 -- `listing_text::lines::put_list` meets its contract. Assumes nothing.
-use native.Mathlib.Omega.{arith}
-use Rattle.listing_text.proofs.Listed.{list_wrote}
+use mathlib.Core.Path.{refl}
+use borrow.Author.Rules.{rules}
+use Rattle.listing_text.proofs.Writing.{finished}
+use Rattle.listing_text.proofs.Listed.{list_adds}
 use Rattle.listing_text.proofs.lines.put_list.Goals as goal
 
-pub returns : goal.returns
-returns c =
+pub returns-clause-text : goal.returns-clause-text
+returns-clause-text c fs ds e f =
     let a = c.args in
-    let p = c.put_head-a.ensures in
-    let q = c.put_finders-b.ensures in
-    let u = c.put_detections.ensures in
-    record { text = list_wrote a.width a.height a.found a.detected _ _ _ _ _ _ _ p.text q.text u.text; most = omega (arith, p.most, q.most, u.most) }
+    let r = list_adds a.width a.height a.found a.detected _ _ c.as_slice.ensures.value c.as_slice-2.ensures.value c.head.ensures c.lines.ensures c.lines-2.ensures fs ds e f in
+    search (rules, finished r refl)

@@ -1,7 +1,7 @@
-use Rattle.std.proofs.Common.{ap, ◌∙◌, arith}
+use Rattle.std.proofs.Common.{ap, ◌∙◌}
 use Rattle.std.proofs.lemmas.List.{length-replicate}
-use Rattle.lists.proofs.Tabulate.{filled_none, filled_step, filled_whole}
-use Rattle.record.specs.Record.{double_at, doubles_at}
+use Rattle.lists.proofs.Tabulate.{filled_none, filled_step}
+use Rattle.record.specs.Record.{double_at}
 use Rattle.record.proofs.Parts.{double_behind}
 use Rattle.record.proofs.values.doubles_at.Goals as goal
 
@@ -12,8 +12,3 @@ pub loop-k-preserved : goal.loop-k-preserved
 loop-k-preserved g c =
     let l = c.loop-k in
     filled_step l.k _ _ l.x-items _ (rw length-replicate c.loop-k-test.true) l.invariant (c.double_at.ensures ∙ ap (λ p. double_at p 0) c.rest.ensures ∙ double_behind _ _)
-
-pub returns : goal.returns
-returns g c =
-    let l = c.loop-k in
-    filled_whole l.k _ _ l.x-items (rw length-replicate (omega arith)) l.invariant ∙ ap (λ z. doubles_at z c.args.p.now c.args.at) (length-replicate _ _)

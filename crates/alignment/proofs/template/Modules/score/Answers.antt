@@ -18,7 +18,7 @@ returns-then-n-k c = let l = c.loop-k in out_of_reach _ _ _ _ _ _ _ _ _ (omega a
 
 pub loop-k-preserved : goal.loop-k-preserved
 loop-k-preserved c = let l = c.loop-k in let s = c.args.self.now in let v = s.view in
-    (omega (arith, c.agrees-n.ensures.upper_bound, l.invariant.0), ap (λ z. l.n + z) c.agrees-n.ensures.value ∙ sum_more (agree v.bits.now v.width v.height v.transform s.x s.y) l.k l.n l.invariant.1)
+    (omega (arith, c.agrees-n.ensures.upper_bound, l.invariant.0), ap (λ z. l.n + z) c.agrees-n.ensures.value ∙ sum_more (agree v.picture.bits.now v.picture.width v.picture.height v.transform s.x s.y) l.k l.n l.invariant.1)
 
 pub returns : goal.returns
 unfolding score_of

@@ -6,4 +6,4 @@ use Rattle.alignment.specs.Template.{agree}
 use Rattle.alignment.proofs.template.Modules.score.Given as goal
 
 abbrev pub invariant-loop-k : goal.invariant-loop-k
-invariant-loop-k l = let s = l.self in let v = s.view in (l.n ≤ l.k) × (l.n ≡ sum_to l.k (agree v.bits.now v.width v.height v.transform s.x s.y))
+invariant-loop-k l = let s = l.self in let v = s.view in (l.n ≤ l.k) × (l.n ≡ sum_to l.k (agree v.picture.bits.now v.picture.width v.picture.height v.transform s.x s.y))

@@ -14,5 +14,5 @@ sweep-requires c = (omega arith, omega arith, known_nothing _ _ _ _ _ _ _ _ _ re
 pub returns : goal.returns
 returns c =
     let s = c.args.self.now in
-    best_by s.bits.now s.width s.height s.transform _ _ _ _ _ _ c.centre-c.ensures c.first_sweep-a.ensures c.sweep-b.ensures c.raised.ensures
+    best_by s.picture.bits.now s.picture.width s.picture.height s.transform _ _ _ _ _ _ c.centre-c.ensures c.first_sweep-a.ensures c.sweep-b.ensures c.raised.ensures
     c.sweep.ensures

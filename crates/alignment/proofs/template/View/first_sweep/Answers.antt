@@ -20,7 +20,7 @@ sweep-requires c =
     let a = c.args in let s = a.self.now in
     let e = rw c.side.ensures at c.fill_colours.ensures in
     let l = version_most _ _ _ _ s.passes in
-    (omega arith, omega arith, rw c.centre.ensures (known_all s.bits.now s.width s.height s.transform (side_of s.version.0) _ _ (omega arith) (omega arith) refl refl e))
+    (omega arith, omega arith, rw c.centre.ensures (known_all s.picture.bits.now s.picture.width s.picture.height s.transform (side_of s.version.0) _ _ (omega arith) (omega arith) refl refl e))
 
 pub returns : goal.returns
 unfolding of_bits div

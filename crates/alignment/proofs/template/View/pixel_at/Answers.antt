@@ -6,4 +6,4 @@ use Rattle.alignment.proofs.template.View.pixel_at.Goals as goal
 
 pub returns-clause-value : goal.returns-clause-value
 unfolding pixel_at
-returns-clause-value c = rw (← c.to_u32.ensures, ← c.to_u32-2.ensures, ← c.dark-is_dark.ensures) (c.from.ensures ∙ bit_from c.dark-is_dark.result)
+returns-clause-value c = rw (← c.to_u32.ensures, ← c.to_u32-2.ensures, ← c.dark.ensures) (c.from.ensures ∙ bit_from c.dark.result)

@@ -5,4 +5,4 @@ use Rattle.alignment.proofs.template.View.searched.Goals as goal
 
 pub returns : goal.returns
 unfolding searched_of find_of
-returns c = rw (← c.centre-c.ensures, ← c.apply-predicted.ensures, ← c.find_alignment.ensures) c.unwrap_or.ensures
+returns c = let e = rw c.from.ensures at c.find_alignment.ensures in rw (← c.centre-c.ensures, ← c.apply-predicted.ensures, ← e) c.unwrap_or.ensures

@@ -14,7 +14,7 @@ loop-k-preserved c =
     let l = c.loop-k in
     let a = c.args in
     let s = a.self.now in
-    fold_more (visited s.bits.now s.width s.height s.transform a.c a.m a.step a.best.x a.best.y) _ l.nearest _ l.k _ c.loop-k-test.true l.invariant
+    fold_more (visited s.picture.bits.now s.picture.width s.picture.height s.transform a.c a.m a.step a.best.x a.best.y) _ l.nearest _ l.k _ c.loop-k-test.true l.invariant
     (rw (← c.offset.ensures, ← c.offset-in-loop-k.ensures) c.visit-nearest.ensures)
 
 pub returns : goal.returns
@@ -23,4 +23,4 @@ returns c =
     let l = c.loop-k in
     let a = c.args in
     let s = a.self.now in
-    sym (fold_end (visited s.bits.now s.width s.height s.transform a.c a.m a.step a.best.x a.best.y) _ l.nearest l.k _ c.loop-k-test.false l.invariant)
+    sym (fold_end (visited s.picture.bits.now s.picture.width s.picture.height s.transform a.c a.m a.step a.best.x a.best.y) _ l.nearest l.k _ c.loop-k-test.false l.invariant)

@@ -1,8 +1,0 @@
--- `binary::line::run_on` meets its contract. Assumes nothing.
-use Prim.Native.Nat.{◌+◌, ◌-◌}
-use mathlib.Core.Path.{◌≡◌}
-use Rattle.binary.specs.Line.{pixel, run}
-use Rattle.binary.proofs.line.run_on.Given as goal
-
-abbrev pub invariant-loop-n : goal.invariant-loop-n
-invariant-loop-n l = run l.want (pixel l.bits l.start l.stride) l.from l.left ≡ l.n + run l.want (pixel l.bits l.start l.stride) (l.from + l.n) (l.left - l.n)

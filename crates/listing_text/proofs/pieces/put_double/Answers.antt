@@ -1,5 +1,0 @@
--- `listing_text::pieces::put_double` meets its contract. Assumes nothing.
-use Rattle.listing_text.proofs.pieces.put_double.Goals as goal
-
-pub returns : goal.returns
-returns c = record { text = rw (← c.bits.ensures.value) c.put_hex.ensures.text; most = c.put_hex.ensures.most }
