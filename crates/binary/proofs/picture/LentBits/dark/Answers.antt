@@ -1,10 +1,8 @@
 -- `binary::picture::LentBits::dark` meets its contract. Assumes nothing.
 use mathlib.Core.Path.{ap, ◌∙◌}
-use native.Mathlib.Omega.{arith}
 use borrow.Author.Tests.{lt-ltb, le-ltb}
 use lib.Dec.{eqb}
 use Prim.Native.Nat.{ℕ}
-use Rattle.lists.proofs.Numbers.{mul_bound}
 use Rattle.binary.specs.Binary.{dark_at}
 use Rattle.binary.proofs.Bits.{bit_one}
 use Rattle.binary.proofs.picture.LentBits.dark.Goals as goal
@@ -16,12 +14,6 @@ returns-then-self-x c = simp (le-ltb _ _ c.if-self-x.true)
 pub returns-then-self-y : goal.returns-then-self-y
 unfolding dark_at
 returns-then-self-y c = simp (lt-ltb _ _ c.if-self-x.false, le-ltb _ _ c.if-self-y.true)
-
-pub overflow_mul-y : goal.overflow_mul-y
-overflow_mul-y c = let a = c.args in omega (arith, mul_bound a.y a.self.width 4294967295 4294967295 (omega arith) (omega arith))
-
-pub overflow_add-y : goal.overflow_add-y
-overflow_add-y c = let a = c.args in omega (arith, mul_bound a.y a.self.width 4294967295 4294967295 (omega arith) (omega arith))
 
 pub returns : goal.returns
 unfolding dark_at
