@@ -2,29 +2,8 @@
    each detection: version, where the finders, the marker and the symbol's corners are, and the mean module, all in pixels. */
 #include <stdio.h>
 #include <stdlib.h>
-#include <string.h>
+#include "bytes.h"
 #include "sirvoltha.h"
-
-static uint64_t number(const uint8_t *p, int bytes) {
-    uint64_t n = 0;
-    while (bytes--)
-        n = n << 8 | p[bytes];
-    return n;
-}
-
-static float f32(const uint8_t *p) {
-    uint32_t n = (uint32_t)number(p, 4);
-    float x;
-    memcpy(&x, &n, 4);
-    return x;
-}
-
-static double f64(const uint8_t *p) {
-    uint64_t n = number(p, 8);
-    double x;
-    memcpy(&x, &n, 8);
-    return x;
-}
 
 /* Where module coordinates are in the picture, by the transform numbers at m. */
 static void print_point(const uint8_t *m, double u, double v) {

@@ -71,6 +71,16 @@ static void whole_chain(const char *what, uint8_t format, uint32_t stride) {
             print(i);
 }
 
+static void preview(const char *what, uint8_t format, uint32_t stride) {
+    lend();
+    printf("plate_preview, %s: %d\n", what,
+           plate_preview(picture, stride * H, W, H, stride, format, LENT(GRAY), LENT(BITS), LENT(DENOISED), LENT(MEANS), LENT(LEAST),
+                         LENT(GREATEST), LENT(EDGES), LENT(NEARS), LENT(LIST)));
+    for (int i = 0; i < SLICES; i++)
+        if (i != DETECTIONS)
+            print(i);
+}
+
 static void each_stage(const char *what, uint8_t format, uint32_t stride) {
     lend();
     printf("plate_gray, %s: %d\n", what, plate_gray(picture, stride * H, W, H, stride, format, LENT(GRAY)));
@@ -92,6 +102,7 @@ static void try_format(const char *what, uint8_t format) {
     uint32_t stride = W * format + GAP;
     draw(format);
     whole_chain(what, format, stride);
+    preview(what, format, stride);
     each_stage(what, format, stride);
 }
 

@@ -1,5 +1,6 @@
 #!/usr/bin/env python3
 """Writes what examples/slices.c must print, by the Rust as oracle/build makes it: the whole chain as record 96 of docs/REPLAY.md, the finders as a listing.
+The preview writes what these two give.
 
 usage: examples/slices.py < examples/plate.gray > examples/slices.expected    (oracle/README.md says what it needs)"""
 import struct, subprocess, sys
@@ -56,21 +57,23 @@ def expected(what, format):
     picture, gray = draw(format)
     payload = struct.pack("<IIIB8I", width, height, width * format + gap, format, *lengths) + picture
     answer = bytes.fromhex(oracle("answer", struct.pack("<BI", 96, len(payload)) + payload))
-    number, count, at = answer[0], answer[1], 2 + 122 * answer[1]
-    values = {n: struct.unpack_from("<IQ", answer, at + 12 * i) for i, n in enumerate(slices)}
-    assert number == 0 and len(answer) == at + 12 * 8 and len(set(values.values())) == 8
+    number, count = answer[:2]
+    detections, lent_slices = answer[1 : 2 + 122 * count], answer[2 + 122 * count + 24 :]  # between them the grades
+    assert number == 0 and len(lent_slices) == 12 * 8
+    values = {n: struct.unpack_from("<IQ", lent_slices, 12 * i) for i, n in enumerate(slices)}
     assert values["gray"] == lent(gray, pixels)
-    values["detections"] = lent((answer[1:at]).ljust(367, b"\0"), 367)
+    values["detections"] = lent(detections.ljust(367, b"\0"), 367)
     lines = oracle("listing", struct.pack("<HH", width, height) + gray).split("\n")
     finders = [[int(n, 16) for n in l.split()[:3]] + [int(l.split()[3])] for l in lines[1 : 1 + int(lines[0].split()[2])]]
     head = struct.pack("<BHHB", 1, width, height, len(finders))
     pairs = b"".join(struct.pack("<II", *f[:2]) for f in finders) + b"".join(struct.pack("<II", *f[2:]) for f in finders)
     values["list"] = lent(head + pairs, 6 + 16 * 128)
+    assert len(set(values.values())) == 10
     say = lambda names: "".join("  %s %d %016x\n" % (n, *values[n]) for n in names)
     print(f"{len(finders)} finders, {count} detections", file=sys.stderr)
-    sys.stdout.write(f"plate_chain, {what}: 0\n" + say(slices + ["detections"]) + f"plate_gray, {what}: 0\n" + say(["gray"]))
-    sys.stdout.write("plate_binarize: 0\n" + say(blocks + ["bits"]) + "plate_denoised: 0\n" + say(["denoised"]))
-    sys.stdout.write("plate_finders: 0\n" + say(["list"]) + "plate_candidates: 0\n" + say(["detections"]))
+    sys.stdout.write(f"plate_chain, {what}: 0\n" + say(slices + ["detections"]) + f"plate_preview, {what}: 0\n" + say(slices + ["list"]))
+    sys.stdout.write(f"plate_gray, {what}: 0\n" + say(["gray"]) + "plate_binarize: 0\n" + say(blocks + ["bits"]))
+    sys.stdout.write("plate_denoised: 0\n" + say(["denoised"]) + "plate_finders: 0\n" + say(["list"]) + "plate_candidates: 0\n" + say(["detections"]))
 
 
 print("lengths for 16 x 8: 128 16 2", flush=True)

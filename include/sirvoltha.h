@@ -1,15 +1,17 @@
-/* The quay plate detector for C: the whole chain in one call.
+/* The quay plate detector for C: the whole chain in one call, and the preview of a frame in another.
 
-   `tools/staticlib chain` builds target/staticlib/libchain.a (x86-64, needs only memcpy and memset). The function allocates nothing, keeps
-   nothing between calls, and may run in several threads on different buffers. It takes any numbers and lengths: what is unfit is refused.
-   Its contract, which is proved, stands in crates/chain/src/entry.rt, and in crates/chain_c/src/lib.rt over the call that C makes.
+   `tools/staticlib chain` builds target/staticlib/libchain.a (x86-64, needs only memcpy and memset). The two functions allocate nothing, keep
+   nothing between calls, and may run in several threads on different buffers. They take any numbers and lengths: what is unfit is refused.
+   Their contracts, which are proved, stand in crates/chain/src/entry.rt and crates/preview/src/entry.rt, and in crates/chain_c/src/lib.rt
+   over the calls that C makes.
 
    What the caller sees to, since no length or number says it:
    - A pointer is not null, also where its length is 0, and leads to as many bytes as its length says. No buffer that is written overlaps
      another one.
    - The floating-point environment is the one that a C program starts in: rounding to nearest, every exception masked, neither flush to
-     zero nor denormals are zero (MXCSR as 0x1f80, status flags aside). With another rounding the detections are other bytes; with invalid
-     or inexact unmasked an ordinary picture traps. The call leaves status flags set, as float operations do, and changes nothing else of it.
+     zero nor denormals are zero (MXCSR as 0x1f80, status flags aside). With another rounding detections and list are other bytes; with
+     invalid or inexact unmasked an ordinary picture traps. A call leaves status flags set, as float operations do, and changes nothing
+     else of it.
    - There are PLATE_STACK_BYTES of stack. */
 #ifndef SIRVOLTHA_H
 #define SIRVOLTHA_H
@@ -21,10 +23,11 @@
 extern "C" {
 #endif
 
-/* What plate_chain returns: the first of these that holds, in this order. */
+/* What a call returns: PLATE_DONE, or the first refusal of these that holds, in this order. */
 enum {
     PLATE_DONE = 0,
     PLATE_ZERO_SIDE = 1,      /* a side is 0 */
+    PLATE_LARGE_FRAME = 10,   /* plate_preview only: wider than PLATE_PREVIEW_WIDTH or higher than PLATE_PREVIEW_HEIGHT */
     PLATE_LARGE_SIDE = 2,     /* a side is over PLATE_MAX_SIDE */
     PLATE_UNKNOWN_FORMAT = 3, /* the pixel format is none of the three below */
     PLATE_SHORT_PICTURE = 4,  /* stride below width * format, or fewer picture bytes than (height - 1) * stride + width * format */
@@ -37,11 +40,21 @@ enum { PLATE_GRAY8 = 1, PLATE_RGB8 = 3, PLATE_RGBA8 = 4 };
 
 #define PLATE_MAX_SIDE 4096
 
+/* The widest and the highest frame that plate_preview takes. */
+#define PLATE_PREVIEW_WIDTH 640
+#define PLATE_PREVIEW_HEIGHT 480
+
 /* The lengths that the buffers must have for a picture of w x h pixels, in bytes. */
 #define PLATE_GRAY_BYTES(w, h) ((size_t)(w) * (size_t)(h))
 #define PLATE_BIT_BYTES(w, h) (((size_t)(w) * (size_t)(h) + 7) / 8)
 #define PLATE_BLOCKS(w, h) ((((size_t)(w) + 7) / 8) * (((size_t)(h) + 7) / 8))
 #define PLATE_DETECTION_BYTES 367
+
+/* The most finders that a picture may have, and the bytes of a stored list of n finders. In the list, all numbers little-endian: a byte 1,
+   width and height (u16 each), the count (u8), then x and y of each finder in pixels (f32 each), most confirmed first, and then module in
+   pixels (f32) and confirmations (u32) of each. */
+#define PLATE_MAX_FINDERS 128
+#define PLATE_LIST_BYTES(n) (6 + 16 * (size_t)(n))
 
 /* A call takes less stack than this, whatever the picture: some 11,000 bytes, and where the dynamic linker binds memcpy at
    its first call what it takes for that, some 3,000 bytes as measured (README.md). It holds for the single stages of sirvoltha_stages.h too. */
@@ -94,6 +107,29 @@ uint8_t plate_chain(const uint8_t *picture, size_t picture_len,
                     uint8_t *edges, size_t edges_len,
                     uint8_t *nears, size_t nears_len,
                     uint8_t *detections, size_t detections_len);
+
+/* Looks for the finders of a frame alone, for a display while the unit is aimed. The parameters are those of plate_chain, but for these:
+
+     width, height   in pixels, 1 to PLATE_PREVIEW_WIDTH and 1 to PLATE_PREVIEW_HEIGHT
+     list        in place of detections, PLATE_LIST_BYTES(PLATE_MAX_FINDERS) whatever is found: the finders as a stored list; what is
+                 behind it is not touched
+
+   Returns PLATE_DONE or a refusal: the first of 1, 10, 3, 4, 5, 6 that holds; never 2, since such a side is refused by 10. After 1 to 5
+   and 10 no byte has been written. After 6 list is untouched, and the other buffers hold what they would hold after 0.
+
+   A frame that both functions take has the same finders in both: plate_chain makes its detections of those in list. Both leave the same
+   bytes in the buffers gray to nears, and both return 6 or neither does (proved: crates/preview). */
+uint8_t plate_preview(const uint8_t *picture, size_t picture_len,
+                      uint32_t width, uint32_t height, uint32_t stride, uint8_t format,
+                      uint8_t *gray, size_t gray_len,
+                      uint8_t *bits, size_t bits_len,
+                      uint8_t *denoised, size_t denoised_len,
+                      uint8_t *means, size_t means_len,
+                      uint8_t *least, size_t least_len,
+                      uint8_t *greatest, size_t greatest_len,
+                      uint8_t *edges, size_t edges_len,
+                      uint8_t *nears, size_t nears_len,
+                      uint8_t *list, size_t list_len);
 
 #ifdef __cplusplus
 }

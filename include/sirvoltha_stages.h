@@ -1,4 +1,5 @@
-/* The single stages of the quay plate detector for C, for measurements and tests; the firmware has plate_chain (sirvoltha.h).
+/* The single stages of the quay plate detector for C, for measurements and tests; the firmware has plate_chain and plate_preview
+   (sirvoltha.h).
 
    `tools/staticlib entries` builds target/staticlib/libentries.a. All that sirvoltha.h says of plate_chain holds here too: its refusals, pixel
    formats, lengths and layouts, what the caller sees to, and the floating-point environment. Each function returns PLATE_DONE, or the
@@ -11,10 +12,6 @@
 #ifdef __cplusplus
 extern "C" {
 #endif
-
-/* The bytes of a stored list of n finders, and of the longest one. */
-#define PLATE_LIST_BYTES(n) (6 + 16 * (size_t)(n))
-#define PLATE_MAX_FINDERS 128
 
 /* Gray conversion, into gray. 1, 2, 3, 4, 5. */
 uint8_t plate_gray(const uint8_t *picture, size_t picture_len,
@@ -36,9 +33,8 @@ uint8_t plate_denoised(const uint8_t *bits, size_t bits_len,
                        uint32_t width, uint32_t height,
                        uint8_t *denoised, size_t denoised_len);
 
-/* The finders of a bit picture, into list. 1, 2, 4, 6, and then 5, since the length that is needed, PLATE_LIST_BYTES of their count, is
-   known after the search. The list, little-endian: a byte 1, width and height (u16 each), the count (u8), x and y of each finder in pixels
-   (f32 each), and then module in pixels (f32) and confirmations (u32) of each. */
+/* The finders of a bit picture, as a stored list (sirvoltha.h) into list. 1, 2, 4, 6, and then 5, since the length that is needed,
+   PLATE_LIST_BYTES of their count, is known after the search. */
 uint8_t plate_finders(const uint8_t *bits, size_t bits_len,
                       uint32_t width, uint32_t height,
                       uint8_t *list, size_t list_len);

@@ -1,4 +1,4 @@
-//! Times each stage and the whole chain beside the Rust of oracle/build, in one run: the two take
+//! Times each stage, the whole chain and the preview beside the Rust of oracle/build, in one run: the two take
 //! turns on the same picture, and the least time of each counts. Time is the processor time
 //! of this thread. Slices are lent and not cleared between calls; the Rust allocates its
 //! results at each call, as its functions do. See bench/run.
@@ -22,7 +22,14 @@ use rng::Rng;
 use stages::{Lent, Picture, Stage};
 use std::hint::black_box;
 
-const SIZES: [(u32, u32); 5] = [(640, 480), (512, 512), (1024, 1024), (2048, 2048), (4096, 4096)];
+/// The largest frame of the preview, which the other sizes are over.
+const FRAME: (u32, u32) = (640, 480);
+
+const SIZES: [(u32, u32); 5] = [FRAME, (512, 512), (1024, 1024), (2048, 2048), (4096, 4096)];
+
+/// The lines that stand side by side at the end.
+const CHAIN: &str = "whole chain, Rgb8";
+const PREVIEW: &str = "preview, Rgb8";
 
 /// Processor time of this thread, in milliseconds.
 fn now() -> f64 {
@@ -147,7 +154,16 @@ fn measure(gray: &Gray, rng: &mut Rng) -> Vec<Line> {
         let bin = binarize(&view.gray_buffer(), width, height);
         drop(detect_candidates(&bin.denoised()));
     };
-    lines.push(line("whole chain, Rgb8", turns, &whole, stages::CHAIN, &rgb, &mut l));
+    lines.push(line(CHAIN, turns, &whole, stages::CHAIN, &rgb, &mut l));
+    if (width, height) == FRAME {
+        let preview = || {
+            let bin = binarize(&view.gray_buffer(), width, height);
+            drop(find_finders(&bin.denoised()));
+        };
+        // So that the list below is the preview's.
+        l.list.fill(0);
+        lines.push(line(PREVIEW, turns, &preview, stages::PREVIEW, &rgb, &mut l));
+    }
     let (finders, detections) = (find_finders(&clean).len(), detect_candidates(&clean).len());
     assert!(
         l.list[5] as usize == finders && l.detections[0] as usize == detections,
@@ -163,6 +179,16 @@ fn print(lines: &[Line]) {
         println!("  {:20}{:>12.3}{:>12.3}{:>16.2}", l.name, l.rust, l.ours, l.rust / l.ours);
     }
     println!();
+}
+
+/// This side's preview of a frame beside its whole chain, for each picture.
+fn print_frames(frames: &[(&str, Vec<Line>)]) {
+    println!("{} x {}, Rattle ms", FRAME.0, FRAME.1);
+    println!("  {:40}{:>12}{:>14}", "picture", "preview", "whole chain");
+    for (name, lines) in frames {
+        let ours = |name| lines.iter().find(|l| l.name == name).map_or(f64::NAN, |l| l.ours);
+        println!("  {:40}{:>12.3}{:>14.3}", name, ours(PREVIEW), ours(CHAIN));
+    }
 }
 
 /// How time grows with the side: the exponent between two sizes, 2 where it grows as the
@@ -192,6 +218,7 @@ fn main() {
         ("Squares of three pixels, with noise", texture),
         ("Paper", blank),
     ];
+    let mut frames = Vec::new();
     for (name, picture) in pictures {
         println!("{name}\n");
         let mut squares = Vec::new();
@@ -202,8 +229,11 @@ fn main() {
             print(&lines);
             if width == height {
                 squares.push((width, lines));
+            } else {
+                frames.push((name, lines));
             }
         }
         print_growth(&squares);
     }
+    print_frames(&frames);
 }

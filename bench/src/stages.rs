@@ -1,4 +1,4 @@
-//! The C entries of the static libraries, as include/sirvoltha.h (`plate_chain`, in libchain.a) and
+//! The C entries of the static libraries, as include/sirvoltha.h (`plate_chain` and `plate_preview`, in libchain.a) and
 //! include/sirvoltha_stages.h (the stages alone, in libentries.a) declare them for C. Numbers go as themselves, a byte
 //! slice as its pointer and its length.
 
@@ -82,6 +82,33 @@ unsafe extern "C" {
         nears_len: usize,
         detections: *mut u8,
         detections_len: usize,
+    ) -> u8;
+    /// Leaves the stored list.
+    fn plate_preview(
+        picture: *const u8,
+        picture_len: usize,
+        width: u32,
+        height: u32,
+        stride: u32,
+        format: u8,
+        gray: *mut u8,
+        gray_len: usize,
+        bits: *mut u8,
+        bits_len: usize,
+        denoised: *mut u8,
+        denoised_len: usize,
+        means: *mut u8,
+        means_len: usize,
+        least: *mut u8,
+        least_len: usize,
+        greatest: *mut u8,
+        greatest_len: usize,
+        edges: *mut u8,
+        edges_len: usize,
+        nears: *mut u8,
+        nears_len: usize,
+        list: *mut u8,
+        list_len: usize,
     ) -> u8;
 }
 
@@ -218,5 +245,34 @@ pub const CHAIN: Stage = |p, l| unsafe {
         l.nears.len(),
         l.detections.as_mut_ptr(),
         l.detections.len(),
+    )
+};
+
+pub const PREVIEW: Stage = |p, l| unsafe {
+    plate_preview(
+        p.bytes.as_ptr(),
+        p.bytes.len(),
+        p.width,
+        p.height,
+        p.stride,
+        p.format,
+        l.gray.as_mut_ptr(),
+        l.gray.len(),
+        l.bits.as_mut_ptr(),
+        l.bits.len(),
+        l.denoised.as_mut_ptr(),
+        l.denoised.len(),
+        l.means.as_mut_ptr(),
+        l.means.len(),
+        l.least.as_mut_ptr(),
+        l.least.len(),
+        l.greatest.as_mut_ptr(),
+        l.greatest.len(),
+        l.edges.as_mut_ptr(),
+        l.edges.len(),
+        l.nears.as_mut_ptr(),
+        l.nears.len(),
+        l.list.as_mut_ptr(),
+        l.list.len(),
     )
 };

@@ -2,13 +2,15 @@
 //! listing program; every answer against the expected one.
 
 use crate::answers::{Source, answer, chain_of};
-use crate::cases::{Reach, case, chain_case};
+use crate::cases::{Reach, case, chain_case, frame_case};
 use crate::coverage::Coverage;
 use crate::exposures;
 use crate::listing;
-use crate::record::{CHAIN_FROM_C, FUNCTIONS, Record, lent, program_of};
+use crate::picture::Picture;
+use crate::rattle;
+use crate::record::{CHAIN_FROM_C, FUNCTIONS, PREVIEW_FROM_C, Record, lent, program_of};
 use crate::rng::Rng;
-use crate::rules::detection_bytes;
+use crate::rules::{Entry, detection_bytes, written_list};
 use std::io::{BufRead, BufReader, Write};
 use std::process::{Child, Command, Stdio};
 use std::sync::mpsc::{Sender, channel};
@@ -159,42 +161,76 @@ fn linked_chain(seed: u64, cases: u64) -> Row {
     for i in 0..cases {
         let limit = rng.pick(&[2_304, 40_000, 40_000, 300_000, 1_000_000]);
         let limit = if i % 8 == 0 { limit } else { limit.min(300_000) };
-        let c = chain_case(i, &mut rng, limit, limit);
+        let c = chain_case(i, &mut rng, limit, limit).whole();
         let room = if i % 5 == 0 { rng.pick(&[0, 366, 367, 368, 400]) } else { 367 };
-        let slices = c.room.map(|n| lent(n as u32));
-        compare_chain(&mut row, &c.picture, c.sides, c.stride, c.format, slices, room);
+        compare_entry(&mut row, Entry::Chain, c.lent(), c.slices(), room);
     }
     let colours: Vec<u8> = (0..1u32 << 24).flat_map(|c| [c as u8, (c >> 8) as u8, (c >> 16) as u8]).collect();
     let lengths = [1 << 24, 1 << 21, 1 << 21, 1 << 18, 1 << 18, 1 << 18, 1 << 18, 1 << 18];
     let four_bytes: Vec<u8> = colours.chunks(3).flat_map(|c| [c[0], c[1], c[2], c[0] ^ 85]).collect();
-    for (format, picture) in [(3, &colours), (4, &four_bytes)] {
-        let slices = lengths.map(|n| vec![7; n]);
-        compare_chain(&mut row, picture, (4096, 4096), format as u32 * 4096, format, slices, 367);
+    for (format, bytes) in [(3, &colours), (4, &four_bytes)] {
+        let picture = Picture { bytes, sides: (4096, 4096), stride: format as u32 * 4096, format };
+        compare_entry(&mut row, Entry::Chain, picture, lengths.map(|n| vec![7; n]), 367);
     }
     row
 }
 
-/// Compares a call of the C entry with the Rust. Gives the number and the nine slices that it left, or nothing where
+/// The preview by its C entry. Of a frame within its limit the whole chain is to leave the same number and eight slices.
+fn linked_preview(seed: u64, cases: u64, met: &mut Coverage) -> Row {
+    let mut row = Row::new(PREVIEW_FROM_C);
+    let mut rng = Rng::new(seed ^ 101 << 32);
+    for i in 0..cases {
+        let c = frame_case(i, &mut rng);
+        let room = if i % 5 == 0 { rng.pick(&[0, 6, 367, 2053, 2054, 2055, 3000]) } else { 2054 };
+        let Some((number, left)) = compare_entry(&mut row, Entry::Preview, c.lent(), c.slices(), room) else {
+            continue;
+        };
+        let found = left[8].get(5).filter(|_| number == 0);
+        met.note_preview(c.sides, number, found.copied().unwrap_or(0));
+        if number == 10 || room < Entry::Preview.room() {
+            continue;
+        }
+        let mut got = with_last(c.slices(), lent(Entry::Chain.room()));
+        let again = rattle::call(Entry::Chain, c.lent(), &mut got);
+        let same = again == Some(number) && got[..8] == left[..8];
+        row.mismatches += !same as u64;
+        if !same && row.mismatches <= 3 {
+            let sides = c.sides;
+            println!("{}: {number} at {sides:?}, the whole chain {again:?} or other slices", row.name);
+        }
+    }
+    row
+}
+
+/// Nine slices of a C entry.
+fn with_last(slices: [Vec<u8>; 8], last: Vec<u8>) -> [Vec<u8>; 9] {
+    let [g, b, d, m, l, h, e, n] = slices;
+    [g, b, d, m, l, h, e, n, last]
+}
+
+/// Compares a call of a C entry with the Rust. Gives the number and the nine slices that it left, or nothing where
 /// no library is linked.
-pub fn compare_chain(
+pub fn compare_entry(
     row: &mut Row,
-    picture: &[u8],
-    sides: (u32, u32),
-    stride: u32,
-    format: u8,
+    entry: Entry,
+    picture: Picture,
     slices: [Vec<u8>; 8],
     room: u32,
 ) -> Option<(u8, [Vec<u8>; 9])> {
     let mut out = lent(room);
-    let [g, b, d, m, l, h, e, n] = slices.clone();
-    let mut got = [g, b, d, m, l, h, e, n, out.clone()];
-    let Some(number) = crate::rattle::chain(picture, sides, stride, format, &mut got) else {
+    let mut got = with_last(slices.clone(), out.clone());
+    let Some(number) = rattle::call(entry, picture, &mut got) else {
         row.unanswered += 1;
         return None;
     };
-    let done = chain_of(picture, sides, stride, format, slices, room >= 367);
+    let done = chain_of(entry, picture, slices, room >= entry.room());
+    let Picture { sides, stride, format, .. } = picture;
     if done.number == 0 {
-        out[..367].copy_from_slice(&detection_bytes(&done.detections));
+        let answer = match entry {
+            Entry::Chain => detection_bytes(&done.detections),
+            Entry::Preview => written_list(sides.0, sides.1, &done.finders),
+        };
+        out[..answer.len()].copy_from_slice(&answer);
     }
     row.count(done.source);
     let same = number == done.number && got[..8] == done.slices && got[8] == out;
@@ -223,6 +259,7 @@ pub fn run(seed: u64, share: f64, only: Option<&str>) -> bool {
     }
     if wanted("chain") {
         rows.push(linked_chain(seed, some(1000)));
+        rows.push(linked_preview(seed, some(4000), &mut met));
         rows.push(listing::compared(seed, some(1000)));
     }
     if wanted("exposures") {

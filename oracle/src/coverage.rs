@@ -2,7 +2,7 @@
 
 use crate::differences::triples_of;
 use crate::lenses::Lenses;
-use crate::record::Record;
+use crate::record::{Fields, Record};
 use crate::rules::{End, Run, graded};
 use crate::search::{Hit, answer_of, limit_of};
 use lcr_decode::detect::{Detection, Finder};
@@ -11,7 +11,7 @@ use std::collections::BTreeMap;
 
 #[derive(Default)]
 pub struct Coverage {
-    refusals: [u64; 9],
+    refusals: [u64; 11],
     finders: BTreeMap<u8, u64>,
     counts: BTreeMap<u8, BTreeMap<u8, u64>>,
     detections: BTreeMap<u8, u64>,
@@ -19,13 +19,25 @@ pub struct Coverage {
     passed: u64,
     ends: [u64; 3],
     lenses: Lenses,
+    previews: Previews,
+}
+
+/// Previews, by records and by the C entry.
+#[derive(Default)]
+struct Previews {
+    /// Refused by 10, and those by one pixel.
+    over: [u64; 2],
+    /// Frames of exactly 640 × 480, and those that were taken.
+    whole: [u64; 2],
+    /// Answers with finders, with 127, with 128, refusals 6.
+    found: [u64; 4],
 }
 
 impl Coverage {
     pub fn note(&mut self, record: &Record, answer: &[u8]) {
         let function = record.function;
         self.lenses.note(record, answer);
-        let numbered = matches!(function, 1..=3 | 16..=18 | 32..=34 | 58 | 64..=67 | 80..=82 | 96);
+        let numbered = matches!(function, 1..=3 | 16..=18 | 32..=34 | 58 | 64..=67 | 80..=82 | 96 | 97);
         if numbered {
             self.refusals[answer[0] as usize] += 1;
         }
@@ -38,7 +50,11 @@ impl Coverage {
         if function == 37 {
             self.ends[answer[2] as usize] += 1;
         }
-        if function >= 80 && answer[0] == 0 {
+        if function == 97 {
+            let f = &mut Fields(&record.payload);
+            self.note_preview((f.u32(), f.u32()), answer[0], answer[1]);
+        }
+        if matches!(function, 80..=82 | 96) && answer[0] == 0 {
             *self.counts.entry(function).or_default().entry(answer[1]).or_default() += 1;
             for place in answer[2..].chunks_exact(122).take(answer[1] as usize) {
                 *self.detections.entry(place[48]).or_default() += 1;
@@ -47,11 +63,23 @@ impl Coverage {
         }
     }
 
+    pub fn note_preview(&mut self, sides: (u32, u32), number: u8, finders: u8) {
+        let over = sides.0.saturating_sub(640).max(sides.1.saturating_sub(480));
+        let (whole, taken) = (sides == (640, 480), number == 0 || number == 6);
+        let p = &mut self.previews;
+        let count = |counts: &mut [u64], met: &[bool]| {
+            counts.iter_mut().zip(met).for_each(|(n, met)| *n += *met as u64);
+        };
+        count(&mut p.over, &[number == 10, number == 10 && over == 1]);
+        count(&mut p.whole, &[whole, whole && taken]);
+        count(&mut p.found, &[finders > 0, finders == 127, finders == 128, number == 6]);
+    }
+
     pub fn print(&self) {
         let list = |map: &BTreeMap<u8, u64>| {
             map.iter().map(|(k, n)| format!("{k}: {n}")).collect::<Vec<_>>().join(", ")
         };
-        let numbers: Vec<String> = (0..9).map(|k| format!("{k}: {}", self.refusals[k])).collect();
+        let numbers: Vec<String> = (0..9).chain([10]).map(|k| format!("{k}: {}", self.refusals[k])).collect();
         println!("refusal numbers met: {}", numbers.join(", "));
         println!("searches by finders: {}", list(&self.finders));
         println!("five runs that pass: {}", self.passed);
@@ -60,6 +88,11 @@ impl Coverage {
         for (function, counts) in &self.counts {
             println!("answers of {function} by detections: {}", list(counts));
         }
+        let Previews { over, whole, found } = &self.previews;
+        println!(
+            "previews refused by 10: {}, by one pixel: {}; of exactly 640 x 480: {}, taken: {}; with finders: {}, with 127: {}, 128: {}, a 129th: {}",
+            over[0], over[1], whole[0], whole[1], found[0], found[1], found[2], found[3]
+        );
         println!("detections by version: {}; with a marker: {}", list(&self.detections), self.markers);
         self.lenses.print();
         GRADES.with_borrow(|g| g.print());

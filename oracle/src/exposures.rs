@@ -3,10 +3,11 @@
 //! what may not change to that of the picture itself.
 
 use crate::cases::{ChainCase, exposed, exposure_case};
-use crate::compare::{Row, compare_chain};
+use crate::compare::{Row, compare_entry};
 use crate::listing::{PROGRAM, expected, printed};
-use crate::record::lent;
+use crate::picture::Picture;
 use crate::rng::Rng;
+use crate::rules::Entry;
 
 /// The numbers that can be added to the bytes: those to both ends, and one between.
 fn shifts(rng: &mut Rng, bytes: &[u8]) -> [i32; 3] {
@@ -71,9 +72,8 @@ pub fn by_c_entry(seed: u64, pictures: u64) -> Row {
         if all && let (Some(low), Some(high)) = (pixels.iter().min(), pixels.iter().max()) {
             c.picture.iter_mut().for_each(|v| *v = (*v).clamp(*low, *high));
         }
-        let call = |row: &mut Row, picture: &[u8]| {
-            let slices = c.room.map(|n| lent(n as u32));
-            compare_chain(row, picture, c.sides, c.stride, c.format, slices, room)
+        let call = |row: &mut Row, bytes: &[u8]| {
+            compare_entry(row, Entry::Chain, Picture { bytes, ..c.lent() }, c.slices(), room)
         };
         let Some((number, left)) = call(&mut row, &c.picture) else { return row };
         met.note(number, &left);

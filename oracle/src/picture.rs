@@ -10,6 +10,15 @@ pub struct Gray {
     pub pixels: Vec<u8>,
 }
 
+/// A picture as it is lent to an entry.
+#[derive(Copy, Clone)]
+pub struct Picture<'a> {
+    pub bytes: &'a [u8],
+    pub sides: (u32, u32),
+    pub stride: u32,
+    pub format: u8,
+}
+
 /// A picture that is dark within a finder whose five runs along x and along y are given,
 /// with light borders.
 pub fn ringed(across: [u32; 5], down: [u32; 5], border: u32) -> Gray {

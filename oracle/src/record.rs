@@ -5,7 +5,7 @@ use lcr_decode::detect::{Detection, Finder};
 use lcr_decode::transform::{Transform, lens_of, lens_transform_of, numbers_of, transform_of};
 
 /// The functions by number, with their group.
-pub const FUNCTIONS: [(u8, &str, &str); 36] = [
+pub const FUNCTIONS: [(u8, &str, &str); 37] = [
     (1, "Version::new", "core"),
     (2, "Version::side", "core"),
     (3, "Version::modules", "core"),
@@ -42,6 +42,7 @@ pub const FUNCTIONS: [(u8, &str, &str); 36] = [
     (81, "detect_candidates", "candidates"),
     (82, "detect", "candidates"),
     (96, "whole chain", "chain"),
+    (97, "preview", "chain"),
 ];
 
 /// The program that replays a group's records (docs/REPLAY.md).
@@ -54,8 +55,9 @@ pub fn program_of(group: &str) -> &'static str {
     }
 }
 
-/// The whole chain by its C entry has no record: the static library is linked.
+/// Calls of the C entries have no record: the static library is linked.
 pub const CHAIN_FROM_C: &str = "whole chain, C entry";
+pub const PREVIEW_FROM_C: &str = "preview, C entry";
 
 /// No payload and no lent slice of a record is longer.
 pub const LONGEST: usize = 262_144;

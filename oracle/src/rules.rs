@@ -19,6 +19,37 @@ pub fn large_side(width: u32, height: u32) -> (u8, bool) {
     (2, width > 4096 || height > 4096)
 }
 
+/// The preview's limit (document 02, N2).
+pub fn large_frame(width: u32, height: u32) -> (u8, bool) {
+    (10, width > 640 || height > 480)
+}
+
+/// The two entries, which differ in their limit and in what they answer.
+#[derive(Copy, Clone, PartialEq, Eq)]
+pub enum Entry {
+    /// The whole chain: up to three detections.
+    Chain,
+    /// The preview: the finders.
+    Preview,
+}
+
+impl Entry {
+    pub fn limit(self, width: u32, height: u32) -> (u8, bool) {
+        match self {
+            Entry::Chain => large_side(width, height),
+            Entry::Preview => large_frame(width, height),
+        }
+    }
+
+    /// The least bytes that C lends for the answer: the firmware's, or a stored list of 128 finders.
+    pub fn room(self) -> u32 {
+        match self {
+            Entry::Chain => 367,
+            Entry::Preview => 6 + 16 * 128,
+        }
+    }
+}
+
 pub fn bad_version(version: u8) -> (u8, bool) {
     (7, version == 0 || version > 64)
 }

@@ -37,7 +37,7 @@ use Rattle.finders.specs.Hits.{Hit, runs, hits, line_hits}
 use Rattle.finders.specs.Held.{Sighting, Held, held, merge_next}
 use Rattle.finders.specs.Search.{max_finders, sighting, seen, row_sightings_by, column_sightings_by, sightings_by, found_by, sightings, found}
 use Rattle.finders.proofs.Axes.{second_same}
-use Rattle.finders.specs.Answer.{find_checks, find_refusal, finders_after, finders_of}
+use Rattle.finders.specs.Answer.{find_checks, find_refusal, finders_after, finders_of, answer_of}
 use Rattle.rows.specs.Rows.{pos_part, neg_part, column_end, row_end, radius_of, window_of, middle_of, column_runs, limit_of as rowsLimit, marker_at, confirm_of, starts_at, row_runs, confirmed, seen_of, nearer_of, row_nearest, nearest_of, answer, find_of}
 use Rattle.rows.specs.declared.window.Window.{Window}
 use Rattle.alignment.specs.declared.Refined.{Refined}
@@ -294,6 +294,10 @@ module _ (a b : List ℕ) (w h : ℕ) (same : (k : ℕ) → k < w * h → dark_b
     unfolding find_refusal
     six_same = rw (short, found_same)
 
+    search_same : answer_of a w h ≡ answer_of b w h
+    unfolding answer_of
+    search_same = rw (short, found_same)
+
     find_same : (p : Point) (m : Float) → find_of a w h p m ≡ find_of b w h p m
     unfolding find_of
     find_same p m = rw (short, nearest_same (window_of p m w h) p m (end_within p m w h) (bottom_within p m w h))
@@ -367,6 +371,9 @@ module _ (bits : List ℕ) (w h : ℕ) where
 
   pub refusal_tail : find_refusal (take (bytes_of (w * h)) bits) w h ≡ find_refusal bits w h
   refusal_tail = six_same (take (bytes_of (w * h)) bits) bits w h bits_alike short_alike
+
+  pub search_tail : answer_of (take (bytes_of (w * h)) bits) w h ≡ answer_of bits w h
+  search_tail = search_same (take (bytes_of (w * h)) bits) bits w h bits_alike short_alike
 
   pub detections_tail : (fs : List Finder) → detections_of (take (bytes_of (w * h)) bits) w h fs ≡ detections_of bits w h fs
   detections_tail fs = detections_same (take (bytes_of (w * h)) bits) bits w h bits_alike short_alike fs

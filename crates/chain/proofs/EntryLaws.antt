@@ -10,7 +10,9 @@ use borrow.Author.Tests.{lt-ltb, le-ltb, ltb-false}
 use Rattle.std.specs.Prelude.{◌∷◌, ◌++◌, Result, Ok}
 use Rattle.lcr_core.specs.Outcome.{Check, refusal_number, number_of, first_of, unless}
 use Rattle.lcr_core.specs.declared.Refusal.{Refusal}
-use Rattle.lcr_core.proofs.Checks.{first_passes, some_number}
+use Rattle.lcr_core.specs.Answer.{behind}
+use Rattle.lcr_core.proofs.Checks.{first_passes, some_number, first_behind}
+use Rattle.lcr_core.proofs.Answers.{behind_refused, behind_passed}
 use Rattle.little_endian.specs.Bytes.{put}
 use Rattle.little_endian.proofs.Round.{put_front}
 use Rattle.candidates.specs.declared.Detections.{Detections}
@@ -19,8 +21,7 @@ use Rattle.firmware.specs.Firmware.{firmware_bytes, firmware_size}
 use Rattle.stages.specs.Stages.{stages_checks, stages_refusal}
 use Rattle.stages.specs.Pictures.{left_after}
 use Rattle.stages.proofs.Closed.{at_most_five, left_old}
-use Rattle.chain.specs.Chain.{chain_of, chain_answer, short_detections, entry_refusal, detections_after}
-use Rattle.chain.proofs.Behind.{first_behind, behind_refused, behind_passed}
+use Rattle.chain.specs.Chain.{chain_of, short_detections, entry_refusal, detections_after}
 use Rattle.chain.proofs.Theorems.{detection_bytes_lem}
 
 -- ---- the check, where the stages give m and the detections are lent so many bytes
@@ -75,28 +76,28 @@ module _ (len w h s f gray bits denoised : ℕ) (work : List ℕ) (room : ℕ) (
   m = stages_refusal len w h s f gray bits denoised work
 
   abbrev entry : Result Detections Refusal
-  entry = chain_answer (cs ++ (short_detections room ∷ [])) p w h s f
+  entry = behind (cs ++ (short_detections room ∷ [])) (chain_of p w h s f)
 
   -- its number is the first that refuses
   entry_number : entry_refusal m room ≡ first_of (cs ++ (short_detections room ∷ []))
   unfolding entry_refusal stages_refusal
-  entry_number = first_behind cs (short_detections room)
+  entry_number = first_behind cs (short_detections room ∷ [])
 
   -- it refuses
   pub entry_refused : (r : Refusal) → refusal_number r ≡ entry_refusal m room → refusal_number r ≡ number_of entry
-  entry_refused r e = ap number_of (behind_refused p w h s f (cs ++ (short_detections room ∷ [])) r (e ∙ entry_number))
+  entry_refused r e = ap number_of (behind_refused (cs ++ (short_detections room ∷ [])) (chain_of p w h s f) r (e ∙ entry_number))
 
   pub untouched : (n : ℕ) (r : Refusal) → n ≡ refusal_number r → refusal_number r ≡ entry_refusal m room → (new old : List ℕ) → old ≡ left_after n new old
   untouched n r g e = left_old n (λ z. some_number r (sym g ∙ z)) (rw (g, e) (five_at_most m room (at_most_five len w h s f gray bits denoised work)))
 
   -- it passes, and a is the chain's answer
-  module _ (z : 0 ≡ entry_refusal m room) (a : Result Detections Refusal) (g : a ≡ chain_answer cs p w h s f) where
+  module _ (z : 0 ≡ entry_refusal m room) (a : Result Detections Refusal) (g : a ≡ behind cs (chain_of p w h s f)) where
     is_chain : a ≡ chain_of p w h s f
     unfolding stages_refusal
-    is_chain = g ∙ sym (behind_passed p w h s f cs (sym (both_pass m room (sym z))))
+    is_chain = g ∙ sym (behind_passed cs (chain_of p w h s f) (sym (both_pass m room (sym z))))
 
     pub entry_passed : number_of a ≡ number_of entry
-    entry_passed = ap number_of (is_chain ∙ behind_passed p w h s f (cs ++ (short_detections room ∷ [])) (z ∙ entry_number))
+    entry_passed = ap number_of (is_chain ∙ behind_passed (cs ++ (short_detections room ∷ [])) (chain_of p w h s f) (z ∙ entry_number))
 
     -- the detections, where the chain refuses nothing
     pub entry_found : (t : Detections) → Ok t ≡ a → (x old : List ℕ) → room ≡ length old → x ≡ put (firmware_bytes t) 0 old → x ≡ detections_after 0 p w h s f old

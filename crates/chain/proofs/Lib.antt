@@ -1,4 +1,3 @@
 pub mod Theorems
-pub mod Behind
 pub mod Chained
 pub mod EntryLaws

@@ -2,8 +2,7 @@
 -- no run of a hit that document 000 confirms, they are those over document 000's finders; and of score and mean module in what the chain answers, and of
 -- lenses, of which there are none (document 02, N8 and N12). Assumes nothing.
 use mathlib.Core.Path.{◌≡◌, ◌∙◌}
-use Rattle.std.specs.Prelude.{[], ◌∷◌, Err}
-use mathlib.Core.Bool.{Bool, true, false, cond}
+use mathlib.Core.Bool.{false, cond}
 use mathlib.Core.List.{List}
 use Prim.Native.Nat.{ℕ, ◌*◌}
 use native.Mathlib.Omega.{arith}
@@ -12,7 +11,9 @@ use lib.ListN.{length}
 use borrow.Author.Tests.{le-ltb}
 use Rattle.lists.specs.Lists.{Each}
 use Rattle.lcr_core.specs.Outcome.{Check, number_of, zero_side, large_side}
+use Rattle.lcr_core.specs.Answer.{behind}
 use Rattle.lcr_core.proofs.Checks.{first_passes}
+use Rattle.lcr_core.proofs.Answers.{behind_holds}
 use Rattle.binary.specs.Binary.{bytes_of}
 use Rattle.binary.specs.Refusal.{short_bits}
 use Rattle.finders.specs.Answer.{is_over, find_refusal, finders_of}
@@ -31,17 +32,23 @@ use Rattle.firmware.proofs.Theorems.{answer_bytes}
 use Rattle.stages.specs.Stages.{stages_refusal}
 use Rattle.stages.specs.Pictures.{denoised_picture}
 use Rattle.stages.proofs.Theorems.{length_denoised}
-use Rattle.chain.specs.Chain.{chain_of, chain_answer}
+use Rattle.chain.specs.Chain.{chain_of}
 
 module _ (p : List ℕ) (w h s f : ℕ) where
-  pub six_is_left : (len gray bits denoised : ℕ) (work : List ℕ) → stages_refusal len w h s f gray bits denoised work ≡ 0
-      → number_of (chain_of p w h s f) ≡ cond (is_over (found (denoised_picture p w h s f) w h)) 6 0
-  unfolding chain_of stages_refusal find_refusal short_bits
-  six_is_left len gray bits denoised work e =
+  -- the search of the denoised bits refuses with nothing else
+  pub search_six : (len gray bits denoised : ℕ) (work : List ℕ) → stages_refusal len w h s f gray bits denoised work ≡ 0
+      → find_refusal (denoised_picture p w h s f) w h ≡ cond (is_over (found (denoised_picture p w h s f) w h)) 6 0
+  unfolding stages_refusal find_refusal short_bits
+  search_six len gray bits denoised work e =
       let p1 = first_passes (zero_side w h) 0 _ e in
       let p2 = first_passes (large_side w h) 1 _ p1.1 in
       let k : ltb (length (denoised_picture p w h s f)) (bytes_of (w * h)) ≡ false = le-ltb (length (denoised_picture p w h s f)) (bytes_of (w * h)) (omega (arith, length_denoised p w h s f)) in
-      detect_number (denoised_picture p w h s f) w h ∙ simp (p1.0, p2.0, k)
+      simp (p1.0, p2.0, k)
+
+  pub six_is_left : (len gray bits denoised : ℕ) (work : List ℕ) → stages_refusal len w h s f gray bits denoised work ≡ 0
+      → number_of (chain_of p w h s f) ≡ cond (is_over (found (denoised_picture p w h s f) w h)) 6 0
+  unfolding chain_of
+  six_is_left len gray bits denoised work e = detect_number (denoised_picture p w h s f) w h ∙ search_six len gray bits denoised work e
 
   pub detection_bytes_lem : length (firmware_bytes (table_in (chain_of p w h s f))) ≡ firmware_size
   unfolding chain_of
@@ -52,21 +59,13 @@ module _ (p : List ℕ) (w h s f : ℕ) where
   uncut_chain u = uncut_detect (denoised_picture p w h s f) w h u
 
   -- of `chain` and `plate_chain`, whatever checks they make before a byte is written
-  pub chain_graded : (cs : List Check) → AllGraded (finders_of (denoised_picture p w h s f) w h) (table_in (chain_answer cs p w h s f))
+  pub chain_graded : (cs : List Check) → AllGraded (finders_of (denoised_picture p w h s f) w h) (table_in (behind cs (chain_of p w h s f)))
   unfolding chain_of
-  chain_graded [] = detect_graded (denoised_picture p w h s f) w h
-  chain_graded (c ∷ cs) = go c.refuses (chain_graded cs)
-    where
-      go : (b : Bool) → AllGraded (finders_of (denoised_picture p w h s f) w h) (table_in (chain_answer cs p w h s f)) → AllGraded (finders_of (denoised_picture p w h s f) w h) (table_in (cond b (Err c.refusal) (chain_answer cs p w h s f)))
-      go true k = none_graded (finders_of (denoised_picture p w h s f) w h)
-      go false k = k
+  chain_graded cs =
+      let fs = finders_of (denoised_picture p w h s f) w h in
+      behind_holds (λ a. AllGraded fs (table_in a)) cs (chain_of p w h s f) (λ r. none_graded fs) (detect_graded (denoised_picture p w h s f) w h)
 
   -- no detection of theirs has a lens (document 02, N12), so that the eight numbers of the firmware's bytes and of the listing say all
-  pub chain_plain : (cs : List Check) → Each WithoutLens (table_in (chain_answer cs p w h s f)).at
+  pub chain_plain : (cs : List Check) → Each WithoutLens (table_in (behind cs (chain_of p w h s f))).at
   unfolding chain_of
-  chain_plain [] = detect_plain (denoised_picture p w h s f) w h
-  chain_plain (c ∷ cs) = go c.refuses (chain_plain cs)
-    where
-      go : (b : Bool) → Each WithoutLens (table_in (chain_answer cs p w h s f)).at → Each WithoutLens (table_in (cond b (Err c.refusal) (chain_answer cs p w h s f))).at
-      go true k = none-plain
-      go false k = k
+  chain_plain cs = behind_holds (λ a. Each WithoutLens (table_in a).at) cs (chain_of p w h s f) (λ r. none-plain) (detect_plain (denoised_picture p w h s f) w h)

@@ -1,8 +1,9 @@
 -- The whole chain in one call. Document 01: "Whole chain (added: gray, `binarize`, `denoised`, `detect_candidates`): 1, 2, 3, 4, 5, 6. After 6 the lent
 -- slices hold the finished gray, bits, denoised bits and block values." The firmware's entry has "one more lent slice of at least 367 bytes (5 if shorter,
 -- untouched after 6)". Definitions only.
-use Rattle.std.specs.Prelude.{ℕ, cond, List, [], ◌∷◌, ◌++◌, map, ltb, length, Result, Err}
+use Rattle.std.specs.Prelude.{ℕ, List, [], ◌∷◌, ◌++◌, map, ltb, length, Result}
 use Rattle.lists.specs.Lists.{written}
+use Rattle.lcr_core.specs.Answer.{behind}
 use Rattle.lcr_core.specs.Outcome.{Check, first_of, unless}
 use Rattle.lcr_core.specs.declared.Refusal.{Refusal}
 use Rattle.lcr_core.specs.declared.Refusal.TheVariants.{ShortOutput}
@@ -17,11 +18,6 @@ use Rattle.stages.specs.Pictures.{denoised_picture}
 unfoldable pub chain_of : List ℕ → ℕ → ℕ → ℕ → ℕ → Result Detections Refusal
 chain_of p w h s f = detect_answer (denoised_picture p w h s f) w h
 
--- the same behind checks that are made before a byte is written: the refusal of the first that refuses, 1 to 5, comes first
-abbrev pub chain_answer : List Check → List ℕ → ℕ → ℕ → ℕ → ℕ → Result Detections Refusal
-chain_answer [] p w h s f = chain_of p w h s f
-chain_answer (c ∷ cs) p w h s f = cond c.refuses (Err c.refusal) (chain_answer cs p w h s f)
-
 -- 5: the slice of detections is too short
 abbrev pub short_detections : ℕ → Check
 short_detections len = record { refuses = ltb len firmware_size; refusal = ShortOutput }
@@ -30,14 +26,14 @@ short_detections len = record { refuses = ltb len firmware_size; refusal = Short
 unfoldable pub entry_refusal : ℕ → ℕ → ℕ
 entry_refusal n len = unless n n (first_of (short_detections len ∷ []))
 
--- `chain`: behind what the stages refuse for the picture and the lent slices
+-- `chain`: behind what the stages check before a byte is written, 1 to 5, for the picture and the lent slices
 abbrev pub whole_answer : List ℕ → ℕ → ℕ → ℕ → ℕ → List ℕ → List ℕ → List ℕ → List (List ℕ) → Result Detections Refusal
-whole_answer p w h s f gray bits denoised work = chain_answer (stages_checks (length p) w h s f (length gray) (length bits) (length denoised) (map length work)) p w h s f
+whole_answer p w h s f gray bits denoised work = behind (stages_checks (length p) w h s f (length gray) (length bits) (length denoised) (map length work)) (chain_of p w h s f)
 
 -- `plate_chain`: also 5 where the slice of detections is too short
 abbrev pub entry_answer : List ℕ → ℕ → ℕ → ℕ → ℕ → List ℕ → List ℕ → List ℕ → List (List ℕ) → List ℕ → Result Detections Refusal
 entry_answer p w h s f gray bits denoised work detections =
-    chain_answer (stages_checks (length p) w h s f (length gray) (length bits) (length denoised) (map length work) ++ (short_detections (length detections) ∷ [])) p w h s f
+    behind (stages_checks (length p) w h s f (length gray) (length bits) (length denoised) (map length work) ++ (short_detections (length detections) ∷ [])) (chain_of p w h s f)
 
 -- what an entry that answers n leaves of the slice of detections: after 0 their bytes, else all as it was
 abbrev pub detections_after : ℕ → List ℕ → ℕ → ℕ → ℕ → ℕ → List ℕ → List ℕ

@@ -1,6 +1,6 @@
 -- The refusals of `plate_candidates`, from its check and from the search, and what it writes. Assumes nothing.
-use mathlib.Core.Path.{◌≡◌, refl, sym, ap, ◌∙◌}
-use mathlib.Core.Bool.{Bool, true, false, cond}
+use mathlib.Core.Path.{◌≡◌, sym, ap, ◌∙◌}
+use mathlib.Core.Bool.{cond}
 use mathlib.Core.List.{List}
 use Prim.Native.Nat.{ℕ, ◌≤◌, ◌<◌}
 use native.Mathlib.Omega.{arith}
@@ -8,13 +8,14 @@ use lib.Dec.{ltb}
 use lib.ListN.{length}
 use borrow.Author.Tests.{lt-ltb, le-ltb, ltb-false}
 use Rattle.lists.specs.Lists.{written}
-use Rattle.std.specs.Prelude.{Result, Ok}
+use Rattle.std.specs.Prelude.{[], ◌∷◌, Result, Ok}
 use Rattle.lcr_core.specs.Outcome.{number_of, first_of, unless, zero_side, large_side}
 use Rattle.lcr_core.specs.declared.Refusal.{Refusal}
-use Rattle.lcr_core.proofs.Checks.{first_passes, unless-refused, unless_done}
+use Rattle.lcr_core.specs.declared.Refusal.TheVariants.{ShortOutput, FullTable}
+use Rattle.lcr_core.proofs.Checks.{first_passes, first_behind, unless-refused, unless_done}
 use Rattle.little_endian.specs.Bytes.{put}
 use Rattle.little_endian.proofs.Round.{put_front}
-use Rattle.binary.specs.Refusal.{short_bits, bits_refusal}
+use Rattle.binary.specs.Refusal.{short_bits, bits_checks, bits_refusal}
 use Rattle.finders.specs.Search.{found}
 use Rattle.finders.specs.Answer.{is_over, find_refusal}
 use Rattle.candidates.specs.declared.Detections.{Detections}
@@ -24,20 +25,7 @@ use Rattle.firmware.specs.Firmware.{firmware_bytes, firmware_size}
 use Rattle.firmware.proofs.Theorems.{answer_bytes}
 use Rattle.entries.specs.Entries.{room_checks, candidates_refusal}
 
--- checks, and then others: the refusal of the first, or else that of the others
-three_then : (a b c : Bool) (rest : ℕ) → let n : ℕ = cond a 1 (cond b 2 (cond c 4 0)) in unless n n rest ≡ cond a 1 (cond b 2 (cond c 4 rest))
-three_then true b c rest = refl
-three_then false true c rest = refl
-three_then false false true rest = refl
-three_then false false false rest = refl
-
-four_then : (a b c d : Bool) (rest : ℕ) → let n : ℕ = cond a 1 (cond b 2 (cond c 4 (cond d 5 0))) in unless n n rest ≡ cond a 1 (cond b 2 (cond c 4 (cond d 5 rest)))
-four_then true b c d rest = refl
-four_then false true c d rest = refl
-four_then false false true d rest = refl
-four_then false false false true rest = refl
-four_then false false false false rest = refl
-
+-- the refusal of the first checks, or else that of the others
 same_refusal : (n m rest : ℕ) → n ≡ m → (n ≡ 0 → ⊥) → n ≡ unless m m rest
 same_refusal n m rest e z = unless-refused n n rest z ∙ ap (λ (k : ℕ). unless k k rest) e
 
@@ -49,7 +37,7 @@ room_number room = cond (ltb room firmware_size) 5 0
 module _ (len w h room m : ℕ) (e : m ≡ bits_refusal len w h) where
   after_bits : unless m m (room_number room) ≡ first_of (room_checks len w h room)
   unfolding bits_refusal
-  after_bits = ap (λ (k : ℕ). unless k k (room_number room)) e ∙ three_then (zero_side w h) (large_side w h) (short_bits len w h) (room_number room)
+  after_bits = ap (λ (k : ℕ). unless k k (room_number room)) e ∙ first_behind (bits_checks len w h) (record { refuses = ltb room firmware_size; refusal = ShortOutput } ∷ [])
 
   pub bits_refuse : (m ≡ 0 → ⊥) → m ≡ first_of (room_checks len w h room)
   bits_refuse z = unless-refused m m (room_number room) z ∙ after_bits
@@ -71,7 +59,7 @@ module _ (bits : List ℕ) (w h room n : ℕ) (e : n ≡ first_of (room_checks (
   unfolding candidates_refusal
   check_refused z =
       same_refusal n (first_of (room_checks (length bits) w h room)) (cond (is_over (found bits w h)) 6 0) e z
-      ∙ four_then (zero_side w h) (large_side w h) (short_bits (length bits) w h) (ltb room firmware_size) (cond (is_over (found bits w h)) 6 0)
+      ∙ first_behind (room_checks (length bits) w h room) (record { refuses = is_over (found bits w h); refusal = FullTable } ∷ [])
 
   -- it passes, and a is the answer
   module _ (z : n ≡ 0) (a : Result Detections Refusal) (g : a ≡ detect_answer bits w h) where

@@ -7,11 +7,11 @@ use Prim.Native.Nat.{ℕ, ◌≤◌}
 use lib.ListN.{length}
 use Rattle.std.specs.Prelude.{Result, Err}
 use Rattle.lists.specs.Lists.{written}
-use Rattle.lcr_core.specs.Answer.{checked}
+use Rattle.lcr_core.specs.Answer.{behind, checked}
 use Rattle.lcr_core.specs.Outcome.{Check, refusal_number, number_of, first_of}
 use Rattle.lcr_core.specs.declared.Refusal.{Refusal}
-use Rattle.lcr_core.proofs.Answers.{number_checked}
-use Rattle.lcr_core.proofs.Checks.{unless-refused}
+use Rattle.lcr_core.proofs.Checks.{unless-refused, first_behind}
+use Rattle.lcr_core.proofs.Answers.{number_checked, behind_passed}
 use Rattle.stages.specs.Stages.{stages_checks, stages_refusal, refusal_of}
 use Rattle.stages.specs.Pictures.{bit_picture, denoised_picture, left_after}
 use Rattle.stages.proofs.Closed.{at_most_five, left_old}
@@ -19,8 +19,8 @@ use Rattle.finders.specs.Answer.{answer_of}
 use Rattle.candidates.specs.declared.Detections.{Detections}
 use Rattle.candidates.specs.Candidates.{table_of, table_in}
 use Rattle.firmware.specs.Firmware.{firmware_bytes}
-use Rattle.chain.specs.Chain.{chain_of, chain_answer, short_detections, entry_refusal, detections_after}
-use Rattle.chain.proofs.Behind.{behind_passed, first_behind}
+use Rattle.chain.specs.Chain.{chain_of, short_detections, entry_refusal, detections_after}
+use Rattle.chain.proofs.Theorems.{six_is_left}
 use Rattle.chain.proofs.Chained.{left_done}
 use Rattle.chain.proofs.EntryLaws.{both_pass, five_at_most}
 use Rattle.exposure.specs.Exposure.{gray8, Fix, EntryFix, fix_of, entry_fix_of}
@@ -45,16 +45,17 @@ module _ (p : List ℕ) (w h s : ℕ) (gray bits denoised : List ℕ) (work : Li
 
   -- ---- behind the checks cs
   abbrev by : List Check → Result Detections Refusal
-  by cs = chain_answer cs p w h s gray8
+  by cs = behind cs (chain_of p w h s gray8)
 
   -- they pass
   answer_done : (cs : List Check) → first_of cs ≡ 0 → by cs ≡ chain_of p w h s gray8
-  answer_done cs z = sym (behind_passed p w h s gray8 cs (sym z))
+  answer_done cs z = sym (behind_passed cs (chain_of p w h s gray8) (sym z))
 
   left_written : refused ≡ 0 → (cs : List Check) → first_of cs ≡ 0 → (new old : List ℕ) → left_after (number_of (by cs)) new old ≡ written new old
   unfolding left_after
   left_written y cs z new old =
-      sym (left_done (length p) w h s gray8 (length gray) (length bits) (length denoised) (map length work) 0 (sym y) p (by cs) refl (answer_done cs z) (written new old) new old refl)
+      let n = six_is_left p w h s gray8 (length p) (length gray) (length bits) (length denoised) (map length work) y in
+      sym (left_done 0 (number_of (by cs)) _ refl (ap number_of (answer_done cs z) ∙ n) (written new old) new old refl)
 
   -- one refuses
   answer_kept : (cs : List Check) → (first_of cs ≡ 0 → ⊥) → by cs ≡ checked cs (table_of [])
@@ -96,7 +97,7 @@ module _ (p : List ℕ) (w h s : ℕ) (gray bits denoised : List ℕ) (work : Li
 
     entry_is : entry_refused ≡ first_of entry_checks
     unfolding entry_refusal stages_refusal
-    entry_is = first_behind checks (short_detections (length detections))
+    entry_is = first_behind checks (short_detections (length detections) ∷ [])
 
     abbrev entry_by : List Check → EntryFix
     entry_by cs =

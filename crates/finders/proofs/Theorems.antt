@@ -9,7 +9,7 @@ use Rattle.geometry.specs.declared.Finder.{Finder}
 use Rattle.finders.specs.Held.{Sighting, Held, held, over, within, join, place, merge, merge_next}
 use Rattle.finders.specs.Search.{max_finders, sightings, found_by, found}
 use Rattle.finders.specs.Rank.{stays, insert, ranked}
-use Rattle.finders.specs.Answer.{is_over, find_refusal, answer_of}
+use Rattle.finders.specs.Answer.{is_over, find_refusal, finders_after, finders_of, answer_of}
 use Rattle.finders.proofs.Outcomes.{answer_number}
 use Rattle.finders.proofs.Tables.{over_stays}
 
@@ -110,6 +110,52 @@ six_if bits w h e o =
     go false true s f p q = absurd (omega arith)
     go false false true f p q = absurd (omega arith)
     go false false false f p q = ap (λ (f : Held). cond (is_over f) 6 0) p
+
+-- ---- no more finders than there are places
+held_few : (limit : ℕ) (fs gs : List Finder) (ss : List Sighting) → length fs ≤ limit → folded (merge_next limit) (held fs) ss ≡ held gs → length gs ≤ limit
+unfolding folded
+held_few limit fs gs [] few e = let z : fs ≡ gs = cc in rw z at few
+held_few limit fs gs (s ∷ ss) few e = go (leb (length (place fs s)) limit) refl (held_few limit (place fs s) gs ss)
+  where
+    go : (t : Bool) → leb (length (place fs s)) limit ≡ t → (length (place fs s) ≤ limit → folded (merge_next limit) (held (place fs s)) ss ≡ held gs → length gs ≤ limit)
+        → length gs ≤ limit
+    go true k next = next (leb-true (length (place fs s)) limit k) (rw (merge_by limit fs s true k) at e)
+    go false k next =
+        let h : over ≡ held gs = sym (over_stays limit ss) ∙ (rw (merge_by limit fs s false k) at e) in
+        let z : ◌≡◌ {A = ℕ} 0 1 = cc in absurd (omega arith)
+
+those_few : (fs : List Finder) → length (those stays fs) ≤ length fs
+unfolding those
+those_few [] = omega arith
+those_few (f ∷ fs) = go (stays f) (those_few fs)
+  where
+    go : (t : Bool) → length (those stays fs) ≤ length fs → length (cond t (f ∷ those stays fs) (those stays fs)) ≤ suc (length fs)
+    go true l = omega (arith, l)
+    go false l = omega (arith, l)
+
+insert-length : (gs : List Finder) (f : Finder) → length (insert gs f) ≡ suc (length gs)
+unfolding insert
+insert-length [] f = refl
+insert-length (g ∷ gs) f = go (ltb g.confirmations f.confirmations) (insert-length gs f)
+  where
+    go : (t : Bool) → length (insert gs f) ≡ suc (length gs) → length (cond t (f ∷ g ∷ gs) (g ∷ insert gs f)) ≡ suc (suc (length gs))
+    go true e = refl
+    go false e = ap suc e
+
+folded-length : (gs fs : List Finder) → length (folded insert gs fs) ≡ length gs + length fs
+unfolding folded
+folded-length gs [] = omega arith
+folded-length gs (f ∷ fs) = omega (arith, folded-length (insert gs f) fs, insert-length gs f)
+
+-- of a picture: never more than 128 are given
+pub few_finders : (bits : List ℕ) (w h : ℕ) → length (finders_of bits w h) ≤ max_finders
+unfolding ranked found_by
+few_finders bits w h = go (found bits w h) refl
+  where
+    go : (s : Held) → found bits w h ≡ s → length (finders_after s) ≤ max_finders
+    go over e = omega (arith, folded-length [] (those stays []), those_few [])
+    go (held fs) e =
+        omega (arith, held_few max_finders [] fs (sightings bits w h) (omega arith) e, folded-length [] (those stays fs), those_few fs)
 
 -- ---- most first
 abbrev Below : ℕ → List Finder → Type 0

@@ -5,10 +5,10 @@ use Prim.Native.Nat.{ℕ, zero, suc}
 use native.Mathlib.Omega.{arith}
 use borrow.Author.Tests.{eqb-false, ltb-false}
 use lib.Dec.{eqb, ltb}
-use Rattle.std.specs.Prelude.{List, [], ◌∷◌, take, drop, Result, Ok, Err, IsErrAnd}
+use Rattle.std.specs.Prelude.{List, [], ◌∷◌, ◌++◌, take, drop, Result, Ok, Err, IsErrAnd}
 use Rattle.lcr_core.specs.Outcome.{Check, refusal_number, number_of, first_of, unless, zero_side, large_side, sides_refusal}
 use Rattle.lcr_core.specs.declared.Refusal.{Refusal}
-use Rattle.lcr_core.specs.declared.Refusal.TheVariants.{ZeroSide, LargeSide, UnknownFormat, ShortPicture, ShortOutput, FullTable, BadVersion, BadList}
+use Rattle.lcr_core.specs.declared.Refusal.TheVariants.{ZeroSide, LargeSide, UnknownFormat, ShortPicture, ShortOutput, FullTable, BadVersion, BadList, LargeFrame}
 use Rattle.lcr_core.specs.Passed.{Sides}
 
 pub or_false : (a b : Bool) → a || b ≡ false → (a ≡ false) × (b ≡ false)
@@ -34,6 +34,7 @@ some_number ShortOutput e = absurd (omega arith)
 some_number FullTable e = absurd (omega arith)
 some_number BadVersion e = absurd (omega arith)
 some_number BadList e = absurd (omega arith)
+some_number LargeFrame e = absurd (omega arith)
 
 -- where a list of checks gives 0, its first does not refuse, and the others give 0
 pub first_passes : (b : Bool) (n rest : ℕ) → cond b (suc n) rest ≡ 0 → (b ≡ false) × (rest ≡ 0)
@@ -129,3 +130,23 @@ sides_allowed w h e =
 
 pub sides_known : (w h : ℕ) → 0 ≡ sides_refusal w h → Sides w h
 sides_known w h e = let p = sides_allowed w h e in sides_pass w h (sym p.0) (sym p.1)
+
+-- ---- checks behind checks
+pub first_behind : (cs ds : List Check) → unless (first_of cs) (first_of cs) (first_of ds) ≡ first_of (cs ++ ds)
+first_behind [] ds = refl
+first_behind (c ∷ cs) ds = go c.refuses (first_behind cs ds)
+  where
+    go : (b : Bool) → unless (first_of cs) (first_of cs) (first_of ds) ≡ first_of (cs ++ ds)
+        → let n : ℕ = cond b (refusal_number c.refusal) (first_of cs) in unless n n (first_of ds) ≡ cond b (refusal_number c.refusal) (first_of (cs ++ ds))
+    go true e = sym (unless-refused (refusal_number c.refusal) (refusal_number c.refusal) (first_of ds) (some_number c.refusal))
+    go false e = e
+
+-- where all pass, the first n pass
+pub part_passes : (n : ℕ) (cs : List Check) → 0 ≡ first_of cs → 0 ≡ first_of (take n cs)
+part_passes zero cs e = refl
+part_passes (suc n) [] e = refl
+part_passes (suc n) (c ∷ cs) e = go c.refuses (part_passes n cs) e
+  where
+    go : (b : Bool) → (0 ≡ first_of cs → 0 ≡ first_of (take n cs)) → 0 ≡ cond b (refusal_number c.refusal) (first_of cs) → 0 ≡ cond b (refusal_number c.refusal) (first_of (take n cs))
+    go true later h = absurd (some_number c.refusal (sym h))
+    go false later h = later h

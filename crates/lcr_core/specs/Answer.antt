@@ -1,9 +1,13 @@
--- What a call answers that is refused by the first of its checks that refuses, and else gives a value. Definitions only.
+-- What a call answers whose checks come first: the refusal of the first that refuses, or else what stands behind them. Definitions only.
 use Rattle.std.specs.Prelude.{cond, List, [], ◌∷◌, Result, Ok, Err}
 use Rattle.lcr_core.specs.Outcome.{Check}
 use Rattle.lcr_core.specs.declared.Refusal.{Refusal}
 
--- the refusal of the first check that refuses, or else x
+-- an answer behind checks
+abbrev pub behind : {A : Type 0} → List Check → Result A Refusal → Result A Refusal
+behind [] answer = answer
+behind (c ∷ cs) answer = cond c.refuses (Err c.refusal) (behind cs answer)
+
+-- a value behind checks
 abbrev pub checked : {A : Type 0} → List Check → A → Result A Refusal
-checked [] x = Ok x
-checked (c ∷ cs) x = cond c.refuses (Err c.refusal) (checked cs x)
+checked cs x = behind cs (Ok x)

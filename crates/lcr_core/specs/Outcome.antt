@@ -1,7 +1,7 @@
--- The eight refusal numbers (document 01, first section), the checks that give them, and what a refusal leaves. Definitions only.
+-- The refusal numbers (document 01, first section, and document 02), the checks that give them, and what a refusal leaves. Definitions only.
 use Rattle.std.specs.Prelude.{ℕ, suc, zero, Bool, cond, ◌||◌, eqb, ltb, List, [], ◌∷◌, Result, Ok, Err}
 use Rattle.lcr_core.specs.declared.Refusal.{Refusal}
-use Rattle.lcr_core.specs.declared.Refusal.TheVariants.{ZeroSide, LargeSide, UnknownFormat, ShortPicture, ShortOutput, FullTable, BadVersion, BadList}
+use Rattle.lcr_core.specs.declared.Refusal.TheVariants.{ZeroSide, LargeSide, UnknownFormat, ShortPicture, ShortOutput, FullTable, BadVersion, BadList, LargeFrame}
 
 -- each refusal's number
 abbrev pub refusal_number : Refusal → ℕ
@@ -13,6 +13,7 @@ refusal_number ShortOutput = 5
 refusal_number FullTable = 6
 refusal_number BadVersion = 7
 refusal_number BadList = 8
+refusal_number LargeFrame = 10
 
 -- an answer's number: 0 is done
 abbrev pub number_of : {A : Type 0} → Result A Refusal → ℕ

@@ -1,4 +1,4 @@
-// What every stage shares: why it refuses, with document 01's numbers, the checks of the sides, versions and colours.
+// What every stage shares: why it refuses, with the numbers of documents 01 and 02, the checks of the sides, versions and colours.
 #![tactic(auto)]
 
 ghost use Rattle.std.specs.Prelude.{◌≡◌};
@@ -18,6 +18,7 @@ pub enum Refusal {
     FullTable,
     BadVersion,
     BadList,
+    LargeFrame,
 }
 
 // The number of a refusal.
@@ -34,6 +35,7 @@ impl From<Refusal> for u8 {
             Refusal::FullTable => 6,
             Refusal::BadVersion => 7,
             Refusal::BadList => 8,
+            Refusal::LargeFrame => 10,
         }
     }
 }

@@ -1,8 +1,9 @@
 -- Parts of records as they are read, and of answers as they are written, one after the other. Assumes nothing.
 use Rattle.std.proofs.Common.{◌≡◌, ℕ, zero, suc, ◌+◌, ◌-◌, ◌*◌, ◌/◌, ◌%◌, ◌^◌, ◌<◌, ◌≤◌, min, Bool, true, false, eqb, List, [], ◌∷◌, ◌++◌, length, get_or, take, drop, set, replicate, sym, refl, ap, ◌∙◌, append-nil, add-zero, add-one, arith, length-append, ◌⊎◌, inl, inr}
 use Rattle.std.proofs.lemmas.Bool.{cases_lt}
-use Rattle.std.proofs.lemmas.List.{get_or-drop, get_or-take, take_min}
-use Rattle.std.proofs.Math.Nat.{pow-le-pow_right}
+use Rattle.std.proofs.lemmas.List.{get_or-drop, get_or-take}
+use Rattle.std.proofs.Math.Nat.{one-le-pow, pow-le-pow_right, pow-suc}
+use lib.Arith.{mod-mul}
 use lib.Seq.{take-length, drop-length}
 use lib.Ieee.{binary32, binary64, to_bits, of_bits}
 use Rattle.std.specs.Int.{from_bool}
@@ -16,12 +17,10 @@ use Rattle.little_endian.proofs.Round.{length_bytes}
 use Rattle.transform.specs.declared.Point.{Point}
 use Rattle.transform.specs.declared.Transform.{Transform}
 use Rattle.geometry.specs.declared.Finder.{Finder}
-use Rattle.finders.specs.declared.Finders.{Finders}
-use Rattle.finders.specs.Answer.{held_in}
 use Rattle.candidates.specs.declared.Detection.{Detection}
-use Rattle.firmware.specs.Firmware.{single_bytes, double_bytes, finder_bytes, transform_bytes}
-use Rattle.firmware.proofs.Bytes.{length_double, length_finder, length_transform}
-use Rattle.record.specs.Record.{double_at, finder_at, finders_at, point_bytes, lens_bytes, finders_bytes, flag, grade_bytes, digit_of, byte_digits, digits_line, most_bytes, answer_line, line_of}
+use Rattle.firmware.specs.Firmware.{single_bytes, double_bytes, transform_bytes}
+use Rattle.firmware.proofs.Bytes.{length_double, length_transform}
+use Rattle.record.specs.Record.{double_at, finder_at, finders_at, point_bytes, lens_bytes, flag, grade_bytes, digit_of, byte_digits, digits_line, most_bytes, answer_line, line_of}
 
 -- ---- numbers
 
@@ -67,17 +66,23 @@ unfolding finders_at
 found_all p at count old l i h n e =
     ap (λ (z : List Finder). record { count = count; table = z }) (filled_whole i (λ k. finder_at p (at + 16 * k)) old l (h ∙ sym n) e ∙ ap (λ z. tabulate z (λ k. finder_at p (at + 16 * k))) n)
 
--- the finders of a table are written, up to its count or its end
-pub held_all : (t : Finders) (n : ℕ) → n ≡ min t.count 128 → length t.table ≡ 128 → take n t.table ≡ held_in t
-held_all t n h e = ap (λ z. take z t.table) (h ∙ ap (min t.count) (sym e)) ∙ take_min t.count t.table
+-- ---- a count, and what stands behind it
 
-pub finders_are : (t : Finders) (at : ℕ) (l : List ℕ) → put (flat_map finder_bytes (held_in t)) (at + 1) (set l at (t.count % 256)) ≡ put (finders_bytes t) at l
-unfolding bytes_le put
-finders_are t at l = refl
-
-pub finders_end : (t : Finders) (at : ℕ) → at + 1 + 16 * length (held_in t) ≡ at + length (finders_bytes t)
+-- the k lowest bytes are those of the number modulo 256^k
+pub lowest : (k n : ℕ) → bytes_le k (n % 256 ^ k) ≡ bytes_le k n
 unfolding bytes_le
-finders_end t at = omega (arith, length_flat finder_bytes 16 length_finder (held_in t))
+lowest zero n = refl
+lowest (suc k) n =
+    let s : n % 256 ^ suc k ≡ n / 256 % 256 ^ k * 256 + n % 256 = rw (pow-suc 256 k) (mod-mul n (one-le-pow k 256 (omega arith)) (omega arith)) in
+    let a : n % 256 ^ suc k % 256 ≡ n % 256 = omega (arith, s) in
+    let b : n % 256 ^ suc k / 256 ≡ n / 256 % 256 ^ k = omega (arith, s) in
+    rw (a, b, lowest k (n / 256))
+
+pub counted : (k n : ℕ) (bs : List ℕ) (at : ℕ) (l : List ℕ) → put bs (at + k) (put (bytes_le k (n % 256 ^ k)) at l) ≡ put (bytes_le k n ++ bs) at l
+counted k n bs at l = rw (lowest k n) (put_then k (bytes_le k n) bs at (at + k) l (length_bytes k n) refl)
+
+pub counted_end : (k n : ℕ) (bs : List ℕ) (at : ℕ) → at + k + length bs ≡ at + length (bytes_le k n ++ bs)
+counted_end k n bs at = omega (arith, length-append (bytes_le k n) bs, length_bytes k n)
 
 -- ---- behind the first byte
 

@@ -1,6 +1,5 @@
 -- Laws of lent slices: their lengths, what they hold, their hash and what is answered of them. Assumes nothing.
-use Rattle.std.proofs.Common.{◌≡◌, ℕ, zero, suc, ◌+◌, ◌*◌, ◌/◌, ◌%◌, ◌<◌, ◌≤◌, ◌⊎◌, inl, inr, add-zero, false, cond, ◌&&◌, leb, ltb, List, [], ◌∷◌, ◌++◌, length, take, drop, sym, refl, ap, ◌∙◌, append-nil, arith, length-append, length-drop, length-take-le, drop_at, le-ltb, lt-ltb}
-use native.Mathlib.Nat.{div-div-eq-div-mul}
+use Rattle.std.proofs.Common.{◌≡◌, ℕ, zero, suc, ◌+◌, ◌*◌, ◌%◌, ◌<◌, ◌≤◌, ◌⊎◌, inl, inr, add-zero, false, cond, ◌&&◌, leb, ltb, List, [], ◌∷◌, ◌++◌, length, take, drop, sym, refl, ap, ◌∙◌, append-nil, arith, length-append, length-drop, length-take-le, drop_at, le-ltb, lt-ltb}
 use Rattle.std.specs.List.{fold, list_all, range_with_len}
 use Rattle.std.proofs.lemmas.Bool.{cases_lt, le-leb, lt-leb}
 use Rattle.lists.specs.Lists.{flat_map, folded}
@@ -8,6 +7,7 @@ use Rattle.little_endian.specs.Bytes.{bytes_le, put}
 use Rattle.little_endian.proofs.Pieces.{put_then}
 use Rattle.little_endian.proofs.Round.{length_bytes}
 use Rattle.record.specs.Record.{longest, length_at, lendable_at, hash_of, slice_bytes}
+use Rattle.record.proofs.Parts.{counted}
 
 -- ---- lengths that have room
 
@@ -45,25 +45,9 @@ folded_is g s (x ∷ l) = folded_is g (g s x) l
 
 -- ---- a slice in an answer
 
--- the four lowest bytes are those of the number modulo 2^32
-four_lowest : (v : ℕ) → bytes_le 4 (v % 4294967296) ≡ bytes_le 4 v
-unfolding bytes_le
-four_lowest v =
-    let p : v / 256 / 16777216 ≡ v / 4294967296 = div-div-eq-div-mul v 256 16777216 in
-    let q : v / 256 / 256 / 65536 ≡ v / 256 / 16777216 = div-div-eq-div-mul (v / 256) 256 65536 in
-    let r : v / 256 / 256 / 256 / 256 ≡ v / 256 / 256 / 65536 = div-div-eq-div-mul (v / 256 / 256) 256 256 in
-    let u1 : v % 4294967296 / 256 ≡ v / 256 % 16777216 = omega (arith, p) in
-    let u2 : v / 256 % 16777216 / 256 ≡ v / 256 / 256 % 65536 = omega (arith, q) in
-    let u3 : v / 256 / 256 % 65536 / 256 ≡ v / 256 / 256 / 256 % 256 = omega (arith, r) in
-    let a : v % 4294967296 % 256 ≡ v % 256 = omega arith in
-    let b : v / 256 % 16777216 % 256 ≡ v / 256 % 256 = omega arith in
-    let c : v / 256 / 256 % 65536 % 256 ≡ v / 256 / 256 % 256 = omega arith in
-    let d : v / 256 / 256 / 256 % 256 % 256 ≡ v / 256 / 256 / 256 % 256 = omega arith in
-    rw (a, u1, b, u2, c, u3, d)
-
 pub slice_is : (s : List ℕ) (i : ℕ) (l : List ℕ) → put (bytes_le 8 (hash_of s)) (i + 4) (put (bytes_le 4 (length s % 4294967296)) i l) ≡ put (slice_bytes s) i l
 unfolding slice_bytes
-slice_is s i l = rw (four_lowest (length s)) (put_then 4 (bytes_le 4 (length s)) (bytes_le 8 (hash_of s)) i (i + 4) l (length_bytes 4 (length s)) refl)
+slice_is s i l = counted 4 (length s) (bytes_le 8 (hash_of s)) i l
 
 length_slice : (s : List ℕ) → length (slice_bytes s) ≡ 12
 unfolding slice_bytes

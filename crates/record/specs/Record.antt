@@ -76,6 +76,10 @@ lens_bytes t = transform_bytes t ++ (double_bytes t.cx ++ (double_bytes t.cy ++ 
 abbrev pub finders_bytes : Finders → List ℕ
 finders_bytes t = bytes_le 1 t.count ++ flat_map finder_bytes (held_in t)
 
+-- number, count of two bytes, and finders
+abbrev pub preview_bytes : ℕ → Finders → List ℕ
+preview_bytes refusal t = refusal ∷ (bytes_le 2 t.count ++ flat_map finder_bytes (held_in t))
+
 -- number, count and detections
 abbrev pub detections_bytes : ℕ → Detections → List ℕ
 detections_bytes refusal t = refusal ∷ firmware_bytes t
@@ -136,7 +140,7 @@ fixed_parts =
     ∷ (48, 336) ∷ (49, 576) ∷ (50, 64) ∷ (51, 48) ∷ (52, 96) ∷ (53, 92) ∷ (54, 92) ∷ (55, 90) ∷ (56, 48) ∷ (57, 48) ∷ (58, 58) ∷ (59, 76)
     ∷ (64, 20) ∷ (65, 97) ∷ (66, 101) ∷ (67, 149)
     ∷ (80, 12) ∷ (81, 8) ∷ (82, 8)
-    ∷ (96, 45)
+    ∷ (96, 45) ∷ (97, 45)
     ∷ []
 
 -- the second of the first pair with such a first, 0 where there is none

@@ -75,6 +75,7 @@ fn fixed_part(function: u8) -> usize
         81 => 8,
         82 => 8,
         96 => 45,
+        97 => 45,
         _ => 0,
     }
 }

@@ -1,13 +1,15 @@
 // Floats, points, transforms and finders at places of records and answers. Slice and place go one by one: the places are docs/REPLAY.md's, in no order that
 // a reader or writer with a place of its own would keep.
-ghost use Rattle.std.specs.Prelude.{◌≡◌, ◌+◌, ◌^◌, ◌<◌, ◌++◌, length, slice_set};
+ghost use Rattle.std.specs.Prelude.{◌≡◌, ◌+◌, ◌^◌, ◌<◌, ◌≤◌, ◌++◌, length, slice_set};
+ghost use Rattle.lists.specs.Lists.{flat_map};
 ghost use Rattle.little_endian.specs.Bytes.{put};
-ghost use Rattle.firmware.specs.Firmware.{single_bytes, double_bytes, firmware_bytes};
-ghost use Rattle.record.specs.Record.{float_at, double_at, doubles_at, point_at, transform_at, lens_at, finder_at, corners_at, finders_at, flag, point_bytes, doubles_bytes, lens_bytes, finders_bytes, detections_bytes, grade_bytes, grades_bytes, grades_at};
+ghost use Rattle.finders.specs.Answer.{held_in};
+ghost use Rattle.firmware.specs.Firmware.{single_bytes, double_bytes, finder_bytes, firmware_bytes};
+ghost use Rattle.record.specs.Record.{float_at, double_at, doubles_at, point_at, transform_at, lens_at, finder_at, corners_at, finders_at, flag, point_bytes, doubles_bytes, lens_bytes, finders_bytes, preview_bytes, detections_bytes, grade_bytes, grades_bytes, grades_at};
 
 use crate::slices::rest;
 use candidates::{Detection, Detections};
-use finders::{Finders, MAX_FINDERS};
+use finders::Finders;
 use float::Float;
 use geometry::{Corners, Finder};
 use transform::{Point, Transform};
@@ -141,17 +143,36 @@ pub fn finders_at(p: &[u8], at: u8, count: u32) -> Finders
     t
 }
 
+// The finders that a table holds; the place after them.
+fn put_held(out: &mut [u8], at: u16, t: Finders) -> usize
+    requires { at ≤ 256 }
+    ensures bytes { out.new ≡ put (flat_map finder_bytes (held_in t)) at out.old }
+    ensures next { result ≡ at + length (flat_map finder_bytes (held_in t)) }
+{
+    let held = t.as_slice();
+    for (i, f) in held.iter().enumerate() {
+        firmware::put_finder(out, at + 16 * i as u16, *f);
+    }
+    at as usize + 16 * held.len()
+}
+
 // A count of one byte and the finders; the place after them.
 pub fn put_finders(out: &mut [u8], at: u8, t: Finders) -> usize
     ensures bytes { out.new ≡ put (finders_bytes t) at out.old }
     ensures next { result ≡ at + length (finders_bytes t) }
 {
-    let held = &t.table[..t.count.min(MAX_FINDERS)];
     little_endian::put::<u8>(out, at as u32, (t.count % 256) as u8);
-    for (i, f) in held.iter().enumerate() {
-        firmware::put_finder(out, at as u16 + 1 + 16 * i as u16, *f);
-    }
-    at as usize + 1 + 16 * held.len()
+    put_held(out, at as u16 + 1, t)
+}
+
+// A refusal number, a count of two bytes and the finders; the place after them.
+pub fn put_preview(out: &mut [u8], refusal: u8, t: Finders) -> usize
+    ensures bytes { out.new ≡ put (preview_bytes refusal t) 0 out.old }
+    ensures next { result ≡ length (preview_bytes refusal t) }
+{
+    little_endian::put::<u8>(out, 0, refusal);
+    little_endian::put::<u16>(out, 1, (t.count % 65536) as u16);
+    put_held(out, 3, t)
 }
 
 // The count and the detections behind one byte.

@@ -1,4 +1,4 @@
-// Runs calls from standard input and prints their answers, a line each (docs/REPLAY.md): record 96, the whole chain.
+// Runs calls from standard input and prints their answers, a line each (docs/REPLAY.md): record 96, the whole chain, and record 97, the preview.
 #![tactic(auto)]
 
 use blocks::Blocks;
@@ -6,7 +6,33 @@ use image::gray::LentPixels;
 use record::{slices, values};
 use stages::Slices;
 
-fn chain(p: &[u8], out: &mut [u8]) -> usize {
+// A call that takes a picture and the eight slices: it puts what stands before the slices into the answer; the place after it.
+trait Call {
+    fn run(pixels: LentPixels<'_>, slices: &mut Slices<'_, '_>, out: &mut [u8]) -> usize;
+}
+
+struct Chain;
+
+impl Call for Chain {
+    fn run(pixels: LentPixels<'_>, slices: &mut Slices<'_, '_>, out: &mut [u8]) -> usize {
+        let answer = chain::chain(pixels, slices);
+        let found = answer.unwrap_or(candidates::no_detections());
+        values::put_detections(out, lcr_core::number(answer), found)
+    }
+}
+
+struct Preview;
+
+impl Call for Preview {
+    fn run(pixels: LentPixels<'_>, slices: &mut Slices<'_, '_>, out: &mut [u8]) -> usize {
+        let answer = preview::preview(pixels, slices);
+        let found = answer.unwrap_or(finders::no_finders());
+        values::put_preview(out, lcr_core::number(answer), found)
+    }
+}
+
+// Lends what the payload says, runs the call and puts the slices behind its answer.
+fn lend<C: Call>(p: &[u8], out: &mut [u8]) -> usize {
     if !slices::lendable(p, 13, 8) {
         return 0;
     }
@@ -38,10 +64,8 @@ fn chain(p: &[u8], out: &mut [u8]) -> usize {
         denoised: slices::lent(&mut denoised, p, 21),
         blocks: &mut blocks,
     };
-    let answer = chain::chain(pixels, &mut lent);
-    let found = answer.unwrap_or(candidates::no_detections());
-    let end = values::put_detections(out, lcr_core::number(answer), found);
-    let at = (end % 1024) as u16;
+    let end = C::run(pixels, &mut lent, out);
+    let at = (end % 4096) as u16;
     slices::put_lent(out, at, &gray, p, 13);
     slices::put_lent(out, at + 12, &bits, p, 17);
     slices::put_lent(out, at + 24, &denoised, p, 21);
@@ -65,7 +89,8 @@ struct Calls;
 impl record::Answers for Calls {
     fn answer(function: u8, p: &[u8], out: &mut [u8]) -> usize {
         match function {
-            96 => chain(p, out),
+            96 => lend::<Chain>(p, out),
+            97 => lend::<Preview>(p, out),
             _ => 0,
         }
     }

@@ -92,9 +92,12 @@ cond_most : (b : Bool) (x y n : ℕ) → x ≤ n → y ≤ n → cond b x y ≤ 
 cond_most true x y n l m = l
 cond_most false x y n l m = m
 
-pub left_old : (n : ℕ) → (n ≡ 0 → ⊥) → n ≤ 5 → (new old : List ℕ) → old ≡ left_after n new old
+pub left_other : (n : ℕ) → (n ≡ 0 → ⊥) → (n ≡ 6 → ⊥) → (new old : List ℕ) → old ≡ left_after n new old
 unfolding left_after
-left_old n z l new old = let s : n ≡ 6 → ⊥ = λ e. omega arith in rw (ne_eqb n 0 z, ne_eqb n 6 s)
+left_other n z s new old = rw (ne_eqb n 0 z, ne_eqb n 6 s)
+
+pub left_old : (n : ℕ) → (n ≡ 0 → ⊥) → n ≤ 5 → (new old : List ℕ) → old ≡ left_after n new old
+left_old n z l = left_other n z (λ e. omega arith)
 
 module _ (len w h s f gray bits denoised : ℕ) (work : List ℕ) where
   pub at_most_five : stages_refusal len w h s f gray bits denoised work ≤ 5

@@ -15,6 +15,9 @@ mod check;
 mod read;
 mod write;
 
+// The bytes of the longest list.
+pub const MAX_SIZE: usize = 6 + 16 * finders::MAX_FINDERS;
+
 // What a stored list holds.
 #[derive(Clone, Copy)]
 pub struct Stored {

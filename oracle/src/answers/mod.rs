@@ -5,7 +5,7 @@ mod geometry;
 mod pictures;
 
 use crate::record::{Bytes, Fields, Record};
-use crate::rules::{End, long_runs, run_back, run_on};
+use crate::rules::{End, Entry, long_runs, run_back, run_on};
 use lcr_core::Version;
 use lcr_core::color::Srgb8;
 use lcr_decode::detect::{length_of, match_of};
@@ -49,7 +49,8 @@ pub fn answer(record: &Record) -> Answer {
         48..=59 => geometry::answer(record.function, f, &mut out),
         64..=67 => detections::alignment_answer(record.function, f, &mut out),
         80..=82 => detections::candidates_answer(record.function, f, &mut out),
-        96 => pictures::chain_answer(f, &mut out),
+        96 => pictures::chain_answer(Entry::Chain, f, &mut out),
+        97 => pictures::chain_answer(Entry::Preview, f, &mut out),
         n => panic!("no function {n}"),
     };
     Answer { bytes: out.0, source }

@@ -1,8 +1,9 @@
 //! Gray conversion, black and white conversion, denoising, the finder search, the stored
-//! list and the whole chain.
+//! list, the whole chain and the preview.
 
 use super::{Source, detections_in};
 use crate::coverage;
+use crate::picture::Picture;
 use crate::record::{Bytes, Fields, bytes_of, lent};
 use crate::rules::*;
 use crate::search::{answer_of, held, hits, staying};
@@ -133,7 +134,7 @@ pub fn finders_answer(function: u8, f: &mut Fields, out: &mut Bytes) -> Source {
     Source::Rust
 }
 
-/// What the whole chain leaves: its number, its finders and detections, and the eight slices.
+/// What an entry leaves: its number, its finders, the whole chain's detections, and the eight slices.
 pub struct Chained {
     pub number: u8,
     pub source: Source,
@@ -143,27 +144,22 @@ pub struct Chained {
     pub slices: [Vec<u8>; 8],
 }
 
-/// The whole chain on a picture and eight slices as they are lent.
-pub fn chain_of(
-    picture: &[u8],
-    sides: (u32, u32),
-    stride: u32,
-    format: u8,
-    lent: [Vec<u8>; 8],
-    room: bool,
-) -> Chained {
-    let (width, height) = sides;
+/// The whole chain, or the preview, on a picture and eight slices as they are lent. Only the limit and the detections
+/// tell them apart.
+pub fn chain_of(entry: Entry, picture: Picture, lent: [Vec<u8>; 8], room: bool) -> Chained {
+    let Picture { bytes, sides: (width, height), stride, format } = picture;
     let mut slices = lent;
     let shorter = |s: &Vec<u8>, need: u64| (s.len() as u64) < need;
     let short_bits = slices[1..3].iter().any(|s| shorter(s, bit_bytes(width, height)));
     let short_work = slices[3..].iter().any(|s| shorter(s, blocks(width, height)));
     let short = shorter(&slices[0], pixels(width, height)) || short_bits || short_work || !room;
-    let [bad, few] = picture_checks(picture.len(), width, height, stride, format);
-    let number = refusal(&[zero_side(width, height), large_side(width, height), bad, few, (5, short)]);
+    let [bad, few] = picture_checks(bytes.len(), width, height, stride, format);
+    let large = [entry.limit(width, height), large_side(width, height)];
+    let number = refusal(&[zero_side(width, height), large[0], large[1], bad, few, (5, short)]);
     if number != 0 {
         return Chained { number, source: Source::Rust, finders: Vec::new(), detections: Vec::new(), slices };
     }
-    let view = ImageView::new(picture, width, height, stride, format_of(format)).unwrap();
+    let view = ImageView::new(bytes, width, height, stride, format_of(format)).unwrap();
     let gray = view.gray_buffer();
     let bin = binarize(&gray, width, height);
     let clean = bin.denoised();
@@ -175,16 +171,25 @@ pub fn chain_of(
     }
     let (found, source) = finders_of(&clean);
     let number = if found.is_some() { 0 } else { 6 };
-    let detections = found.as_ref().map_or(Vec::new(), |list| detections_in(&clean, list, source));
+    let detections = match (entry, &found) {
+        (Entry::Chain, Some(list)) => detections_in(&clean, list, source),
+        _ => Vec::new(),
+    };
     Chained { number, source, finders: found.unwrap_or_default(), detections, slices }
 }
 
-pub fn chain_answer(f: &mut Fields, out: &mut Bytes) -> Source {
-    let (width, height, stride, format) = (f.u32(), f.u32(), f.u32(), f.u8());
+pub fn chain_answer(entry: Entry, f: &mut Fields, out: &mut Bytes) -> Source {
+    let (sides, stride, format) = ((f.u32(), f.u32()), f.u32(), f.u8());
     let slices = core::array::from_fn(|_| lent(f.u32()));
-    let done = chain_of(f.rest(), (width, height), stride, format, slices, true);
-    coverage::note_grades(&done.finders, &done.detections);
-    out.u8(done.number).detections(&done.detections).grades(&done.detections);
+    let done = chain_of(entry, Picture { bytes: f.rest(), sides, stride, format }, slices, true);
+    out.u8(done.number);
+    match entry {
+        Entry::Chain => {
+            coverage::note_grades(&done.finders, &done.detections);
+            out.detections(&done.detections).grades(&done.detections)
+        }
+        Entry::Preview => out.u16(done.finders.len() as u16).finders(&done.finders),
+    };
     done.slices.iter().for_each(|s| {
         out.slice(s);
     });

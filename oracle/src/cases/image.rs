@@ -2,8 +2,8 @@
 
 use super::scenes::{clear_plate, longest};
 use super::{Reach, SIDES, about, false_plate, full_table, resized, scene, walls};
-use crate::picture::{Gray, finder_grid};
-use crate::record::{LONGEST, Record};
+use crate::picture::{Gray, Picture, finder_grid};
+use crate::record::{LONGEST, Record, lent};
 use crate::rng::Rng;
 use crate::rules::{bit_bytes, blocks, pixels};
 
@@ -15,7 +15,7 @@ pub fn case(function: u8, i: u64, rng: &mut Rng, reach: Reach) -> Record {
     }
 }
 
-const FORMATS: [u8; 3] = [1, 3, 4];
+pub const FORMATS: [u8; 3] = [1, 3, 4];
 
 /// The most pixels of a picture that a record holds at four bytes a pixel.
 const COLOURED: usize = 64_000;
@@ -26,13 +26,13 @@ fn most_coloured(rng: &mut Rng, reach: Reach) -> usize {
 }
 
 /// A length that can be lent: the one needed, or a short one where that is too long.
-fn lendable(need: u64) -> usize {
+pub fn lendable(need: u64) -> usize {
     if need > LONGEST as u64 { 64 } else { need as usize }
 }
 
 /// A picture in a format: sides, stride, format byte and bytes. Some are refused. One of more
 /// than `most` pixels is gray.
-fn coloured(rng: &mut Rng, gray: &Gray, most: usize, spoilt: bool) -> (u32, u32, u32, u8, Vec<u8>) {
+pub fn coloured(rng: &mut Rng, gray: &Gray, most: usize, spoilt: bool) -> (u32, u32, u32, u8, Vec<u8>) {
     let format = if gray.pixels.len() > most { 1 } else { rng.pick(&FORMATS) };
     let row = gray.width as usize * format as usize;
     let stride = row + if rng.one_in(2) { 0 } else { rng.whole(1, 9) as usize };
@@ -72,7 +72,7 @@ fn plain(rng: &mut Rng, reach: Reach, most: usize) -> Gray {
 
 /// Levels by squares, so that some blocks have an edge and others only neighbours with one,
 /// with wide level parts; spreads of 24 and 25 are common.
-fn uneven(rng: &mut Rng) -> Gray {
+pub fn uneven(rng: &mut Rng) -> Gray {
     let (w, h) = if rng.one_in(2) {
         (rng.whole(60, 200), rng.whole(1, 12))
     } else {
@@ -202,8 +202,28 @@ pub struct ChainCase {
     pub room: [usize; 8],
 }
 
+impl ChainCase {
+    pub fn lent(&self) -> Picture<'_> {
+        Picture { bytes: &self.picture, sides: self.sides, stride: self.stride, format: self.format }
+    }
+
+    pub fn slices(&self) -> [Vec<u8>; 8] {
+        self.room.map(|n| lent(n as u32))
+    }
+
+    /// With the slices that C lends where a record holds none so long, up to those of the longest sides.
+    pub fn whole(mut self) -> ChainCase {
+        for (room, need) in self.room.iter_mut().zip(needs(self.sides.0, self.sides.1)) {
+            if need > LONGEST as u64 && need <= 1 << 24 {
+                *room = need as usize;
+            }
+        }
+        self
+    }
+}
+
 /// Finders in a square, so that several triples make a plate.
-fn few_finders(rng: &mut Rng) -> Gray {
+pub fn few_finders(rng: &mut Rng) -> Gray {
     finder_grid(rng.pick(&[3, 4, 4, 6, 9]), rng.whole(2, 3), 2, rng.whole(14, 22))
 }
 
@@ -225,13 +245,16 @@ pub fn chain_case(i: u64, rng: &mut Rng, limit: usize, most: usize) -> ChainCase
     called(i, rng, &gray, most, spoilt)
 }
 
+/// The lengths that the eight slices must have.
+pub fn needs(width: u32, height: u32) -> [u64; 8] {
+    let (bits, blocks) = (bit_bytes(width, height), blocks(width, height));
+    [pixels(width, height), bits, bits, blocks, blocks, blocks, blocks, blocks]
+}
+
 /// A picture that is lent with its slices, of which now and then one is about as long as it must be.
-fn called(i: u64, rng: &mut Rng, gray: &Gray, most: usize, spoilt: bool) -> ChainCase {
+pub fn called(i: u64, rng: &mut Rng, gray: &Gray, most: usize, spoilt: bool) -> ChainCase {
     let (width, height, stride, format, picture) = coloured(rng, gray, most, spoilt);
-    let mut room = [lendable(blocks(width, height)); 8];
-    room[0] = lendable(pixels(width, height));
-    room[1] = lendable(bit_bytes(width, height));
-    room[2] = room[1];
+    let mut room = needs(width, height).map(lendable);
     if i % 6 == 1 {
         let k = rng.below(8) as usize;
         room[k] = about(rng, room[k]);
@@ -268,8 +291,12 @@ pub fn exposure_case(i: u64, rng: &mut Rng) -> ChainCase {
 pub fn chain_record(i: u64, rng: &mut Rng, reach: Reach) -> Record {
     let limit = reach.pixels(rng, false).min(COLOURED);
     let most = most_coloured(rng, reach);
-    let c = chain_case(i, rng, limit, most);
-    Record::new(96).with(|b| {
+    recorded(96, &chain_case(i, rng, limit, most))
+}
+
+/// A record of the whole chain, or of the preview.
+pub fn recorded(function: u8, c: &ChainCase) -> Record {
+    Record::new(function).with(|b| {
         b.u32(c.sides.0).u32(c.sides.1).u32(c.stride).u8(c.format);
         c.room.iter().for_each(|n| {
             b.u32(*n as u32);

@@ -8,6 +8,7 @@ mod ends;
 mod finders;
 mod geometry;
 mod image;
+mod preview;
 mod runs;
 mod scenes;
 mod unanswered;
@@ -17,6 +18,7 @@ use crate::record::Record;
 use crate::rng::Rng;
 
 pub use image::{ChainCase, chain_case, exposed, exposure_case};
+pub use preview::frame_case;
 pub use scenes::scene;
 pub use unanswered::{is_unanswered, unanswered};
 pub use walls::{false_plate, full_table, walls};
@@ -31,7 +33,7 @@ pub enum Reach {
 }
 
 impl Reach {
-    /// Cases of a function: a million and a half in all, beside the five runs of 36.
+    /// Cases of a function: 1.6 million in all, beside the five runs of 36.
     pub fn cases(self, function: u8) -> u64 {
         if self == Reach::Sample {
             return 1024;
@@ -56,7 +58,8 @@ impl Reach {
             65..=67 => 5_000,
             80 => 8_000,
             81 | 82 => 3_000,
-            _ => 3_000,
+            96 => 3_000,
+            _ => preview::BOUNDARIES + 100_000,
         }
     }
 
@@ -82,7 +85,8 @@ pub fn case(function: u8, i: u64, rng: &mut Rng, reach: Reach) -> Record {
         48..=59 => geometry::case(function, i, rng),
         64..=67 => alignment::case(function, i, rng, reach),
         80..=82 => candidates::case(function, i, rng, reach),
-        _ => image::chain_record(i, rng, reach),
+        96 => image::chain_record(i, rng, reach),
+        _ => preview::preview_record(i, rng, reach),
     }
 }
 

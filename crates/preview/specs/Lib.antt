@@ -1,0 +1,3 @@
+pub mod Limit
+pub mod Preview
+pub mod Lent
