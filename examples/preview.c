@@ -19,10 +19,10 @@ int main(void) {
                                     blocks[0], k, blocks[1], k, blocks[2], k, blocks[3], k, blocks[4], k, list, sizeof list);
     if (refused)
         return printf("refused %d\n", refused), 1;
-    int count = list[5];
+    int count = (int)number(list + 5, 2);
     printf("%d finders\n", count);
     for (int i = 0; i < count; i++) {
-        const uint8_t *place = list + 6 + 8 * i, *size = place + 8 * count;
+        const uint8_t *place = list + PLATE_LIST_BYTES(0) + 8 * i, *size = place + 8 * count;
         printf("  (%.2f, %.2f), module %.3f, %d confirmations\n", f32(place), f32(place + 4), f32(size), (int)number(size + 4, 4));
     }
     return 0;

@@ -6,6 +6,7 @@ usage: examples/slices.py < examples/plate.gray > examples/slices.expected    (o
 import struct, subprocess, sys
 
 side, width, height, gap, tail = 200, 203, 197, 5, 3
+max_finders = 1000
 blocks = ["means", "least", "greatest", "edges", "nears"]
 slices = ["gray", "bits", "denoised"] + blocks
 pixels, bit_bytes, block_count = width * height, (width * height + 7) // 8, -(-width // 8) * -(-height // 8)
@@ -65,9 +66,9 @@ def expected(what, format):
     values["detections"] = lent(detections.ljust(367, b"\0"), 367)
     lines = oracle("listing", struct.pack("<HH", width, height) + gray).split("\n")
     finders = [[int(n, 16) for n in l.split()[:3]] + [int(l.split()[3])] for l in lines[1 : 1 + int(lines[0].split()[2])]]
-    head = struct.pack("<BHHB", 1, width, height, len(finders))
+    head = struct.pack("<BHHH", 2, width, height, len(finders))
     pairs = b"".join(struct.pack("<II", *f[:2]) for f in finders) + b"".join(struct.pack("<II", *f[2:]) for f in finders)
-    values["list"] = lent(head + pairs, 6 + 16 * 128)
+    values["list"] = lent(head + pairs, len(head) + 16 * max_finders)
     assert len(set(values.values())) == 10
     say = lambda names: "".join("  %s %d %016x\n" % (n, *values[n]) for n in names)
     print(f"{len(finders)} finders, {count} detections", file=sys.stderr)

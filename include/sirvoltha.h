@@ -32,7 +32,7 @@ enum {
     PLATE_UNKNOWN_FORMAT = 3, /* the pixel format is none of the three below */
     PLATE_SHORT_PICTURE = 4,  /* stride below width * format, or fewer picture bytes than (height - 1) * stride + width * format */
     PLATE_SHORT_OUTPUT = 5,   /* a buffer is shorter than it must be */
-    PLATE_FULL_TABLE = 6      /* a 129th distinct finder: too much in the picture looks like one */
+    PLATE_FULL_TABLE = 6      /* a 1,001st distinct finder: too much in the picture looks like one */
 };
 
 /* Pixel formats: the number of bytes of a pixel. Gray, or red, green, blue, or these and one more byte, which is not read. */
@@ -50,15 +50,17 @@ enum { PLATE_GRAY8 = 1, PLATE_RGB8 = 3, PLATE_RGBA8 = 4 };
 #define PLATE_BLOCKS(w, h) ((((size_t)(w) + 7) / 8) * (((size_t)(h) + 7) / 8))
 #define PLATE_DETECTION_BYTES 367
 
-/* The most finders that a picture may have, and the bytes of a stored list of n finders. In the list, all numbers little-endian: a byte 1,
-   width and height (u16 each), the count (u8), then x and y of each finder in pixels (f32 each), most confirmed first, and then module in
-   pixels (f32) and confirmations (u32) of each. */
-#define PLATE_MAX_FINDERS 128
-#define PLATE_LIST_BYTES(n) (6 + 16 * (size_t)(n))
+/* The most finders that a picture may have, and the bytes of a stored list of n finders. In the list, all numbers little-endian: a byte 2,
+   width and height (u16 each), the count (u16), then x and y of each finder in pixels (f32 each), most confirmed first, and then module in
+   pixels (f32) and confirmations (u32) of each. A list that begins with a byte 1 is of form 1, which is no longer written: its count is one
+   byte, at most 128, so that all behind it stands one byte earlier. */
+#define PLATE_MAX_FINDERS 1000
+#define PLATE_LIST_BYTES(n) (7 + 16 * (size_t)(n))
 
-/* A call takes less stack than this, whatever the picture: some 11,000 bytes, and where the dynamic linker binds memcpy at
-   its first call what it takes for that, some 3,000 bytes as measured (README.md). It holds for the single stages of sirvoltha_stages.h too. */
-#define PLATE_STACK_BYTES 40960
+/* A call takes less stack than this, whatever the picture: some 35,000 bytes of plate_chain and 49,000 of plate_preview, most of them for
+   tables of PLATE_MAX_FINDERS, and where the dynamic linker binds memcpy at its first call what it takes for that, some 3,000 bytes as
+   measured (README.md). It holds for the single stages of sirvoltha_stages.h too. */
+#define PLATE_STACK_BYTES 65536
 
 /* Looks for plates in a picture.
 

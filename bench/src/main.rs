@@ -96,6 +96,15 @@ fn turned(rng: &mut Rng, width: u32, height: u32) -> Gray {
     out
 }
 
+/// Paper with 30 × 30 finders on it.
+fn crowded(rng: &mut Rng, width: u32, height: u32) -> Gray {
+    let mut out = blank(rng, width, height);
+    for k in 0..30 * 30 {
+        out.draw_finder(k % 30 * width / 30, k / 30 * height / 30, 2);
+    }
+    out
+}
+
 /// A stage's times: the Rust's, ours, both in milliseconds.
 struct Line {
     name: &'static str,
@@ -165,10 +174,7 @@ fn measure(gray: &Gray, rng: &mut Rng) -> Vec<Line> {
         lines.push(line(PREVIEW, turns, &preview, stages::PREVIEW, &rgb, &mut l));
     }
     let (finders, detections) = (find_finders(&clean).len(), detect_candidates(&clean).len());
-    assert!(
-        l.list[5] as usize == finders && l.detections[0] as usize == detections,
-        "finders or detections differ"
-    );
+    assert!(l.listed() == finders && l.detections[0] as usize == detections, "finders or detections differ");
     println!("{width} x {height}: {finders} finders, {detections} detections");
     lines
 }
@@ -235,5 +241,9 @@ fn main() {
         }
         print_growth(&squares);
     }
+    println!("900 finders\n");
+    let mut rng = Rng::new(7);
+    let gray = crowded(&mut rng, FRAME.0, FRAME.1);
+    print(&measure(&gray, &mut rng));
     print_frames(&frames);
 }

@@ -112,6 +112,13 @@ unsafe extern "C" {
     ) -> u8;
 }
 
+/// The most finders of a picture, and the bytes of a stored list of n finders (`PLATE_MAX_FINDERS`, `PLATE_LIST_BYTES`).
+const MAX_FINDERS: usize = 1000;
+
+const fn list_bytes(n: usize) -> usize {
+    7 + 16 * n
+}
+
 /// Slices lent to the stages.
 pub struct Lent {
     pub gray: Vec<u8>,
@@ -122,7 +129,7 @@ pub struct Lent {
     pub greatest: Vec<u8>,
     pub edges: Vec<u8>,
     pub nears: Vec<u8>,
-    /// The stored list: 6 bytes and 16 for each of up to 128 finders.
+    /// The stored list.
     pub list: Vec<u8>,
     /// The detections: their count and 122 bytes for each of up to 3.
     pub detections: Vec<u8>,
@@ -141,9 +148,14 @@ impl Lent {
             greatest: blocks.clone(),
             edges: blocks.clone(),
             nears: blocks,
-            list: vec![0; 6 + 16 * 128],
+            list: vec![0; list_bytes(MAX_FINDERS)],
             detections: vec![0; 367],
         }
+    }
+
+    /// How many finders the stored list has.
+    pub fn listed(&self) -> usize {
+        u16::from_le_bytes([self.list[5], self.list[6]]) as usize
     }
 }
 

@@ -8,9 +8,9 @@ use crate::exposures;
 use crate::listing;
 use crate::picture::Picture;
 use crate::rattle;
-use crate::record::{CHAIN_FROM_C, FUNCTIONS, PREVIEW_FROM_C, Record, lent, program_of};
+use crate::record::{CHAIN_FROM_C, FUNCTIONS, Fields, PREVIEW_FROM_C, Record, lent, program_of};
 use crate::rng::Rng;
-use crate::rules::{Entry, detection_bytes, written_list};
+use crate::rules::{Entry, FORM_ONE_MOST, detection_bytes, list_length, written_list};
 use std::io::{BufRead, BufReader, Write};
 use std::process::{Child, Command, Stdio};
 use std::sync::mpsc::{Sender, channel};
@@ -181,12 +181,15 @@ fn linked_preview(seed: u64, cases: u64, met: &mut Coverage) -> Row {
     let mut rng = Rng::new(seed ^ 101 << 32);
     for i in 0..cases {
         let c = frame_case(i, &mut rng);
-        let room = if i % 5 == 0 { rng.pick(&[0, 6, 367, 2053, 2054, 2055, 3000]) } else { 2054 };
+        let need = Entry::Preview.room();
+        let form_one = list_length(1, FORM_ONE_MOST as u64) as u32;
+        let others = [0, 7, 367, form_one, need - 1, need, need + 1, need + 999];
+        let room = if i % 5 == 0 { rng.pick(&others) } else { need };
         let Some((number, left)) = compare_entry(&mut row, Entry::Preview, c.lent(), c.slices(), room) else {
             continue;
         };
-        let found = left[8].get(5).filter(|_| number == 0);
-        met.note_preview(c.sides, number, found.copied().unwrap_or(0));
+        let found = if number == 0 { Fields(&left[8][5..]).u16() } else { 0 };
+        met.note_preview(c.sides, number, found);
         if number == 10 || room < Entry::Preview.room() {
             continue;
         }

@@ -1,7 +1,7 @@
 //! The listing program: what it prints on a picture, against document 01's format.
 
 use crate::answers::{Source, detections_in, finders_of};
-use crate::cases::{false_plate, full_table, scene, walls};
+use crate::cases::{a_limit, about_form_one, about_limit, crowd, false_plate, full_table, scene, walls};
 use crate::compare::Row;
 use crate::picture::{finder_grid, ringed};
 use crate::record::built_numbers;
@@ -14,6 +14,10 @@ use std::io::Write as _;
 use std::process::{Command, Stdio};
 
 pub const PROGRAM: &str = "crates/listing/out/listing";
+
+/// The most pixels of a picture that it takes, and the most drawn finders of two pixels a module in rows of twelve.
+const MOST_PIXELS: usize = 40_000;
+const MOST_DRAWN: u32 = 144;
 
 fn digits32(v: f32) -> String {
     format!("{:08x}", if v.is_nan() { 0x7fc0_0000 } else { v.to_bits() })
@@ -49,7 +53,7 @@ pub fn expected(input: &[u8]) -> (String, Source) {
     match () {
         _ if width == 0 || height == 0 => return refused(1),
         _ if width > 4096 || height > 4096 => return refused(2),
-        _ if pixels > 40_000 => return refused(5),
+        _ if pixels > MOST_PIXELS => return refused(5),
         _ if input.len() - 4 < pixels => return refused(4),
         _ => (),
     }
@@ -69,8 +73,9 @@ pub fn expected(input: &[u8]) -> (String, Source) {
 fn input(i: u64, rng: &mut Rng) -> Vec<u8> {
     let gray = match i {
         0 => ringed([3, 3, 9, 3, 3], [3, 3, 9, 3, 3], 0),
-        _ if i % 40 == 1 => finder_grid(rng.pick(&[127, 128, 129]), 12, 2, 2),
-        _ if i % 40 == 21 => full_table(rng, 2),
+        _ if i % 40 == 1 => finder_grid(about_form_one(i / 40).min(MOST_DRAWN), 12, 2, 2),
+        _ if i % 20 == 11 => crowd(rng, about_limit(i / 20), 2, MOST_PIXELS),
+        _ if i % 40 == 21 => full_table(rng, a_limit(i / 40), 2, MOST_PIXELS),
         _ if i % 16 == 2 => walls(rng, 2, false),
         _ if i % 16 == 10 => false_plate(rng, 2, false),
         _ => {

@@ -59,18 +59,20 @@ fn vectors(folder: &str, seed: u64) {
     for program in ["replay", "replay_image", "replay_candidates", "replay_chain"] {
         let (mut records, mut lines) = (Vec::new(), String::new());
         for (function, name, _) in record::FUNCTIONS.iter().filter(|f| record::program_of(f.2) == program) {
-            let before = records.len();
+            let (before, mut cut) = (records.len(), 0);
             let mut rng = rng::Rng::new(seed ^ (*function as u64) << 32);
             let cases = Reach::Sample.cases(*function);
             for i in 0..cases {
                 let record = cases::case(*function, i, &mut rng, Reach::Sample);
-                let answer = answers::answer(&record).bytes;
-                met.note(&record, &answer);
+                let answer = answers::answer(&record);
+                met.note(&record, &answer.bytes);
+                cut += (answer.source == answers::Source::Cut) as u64;
                 records.extend(record.encoded());
-                lines += &compare::hex(&answer);
+                lines += &compare::hex(&answer.bytes);
                 lines.push('\n');
             }
-            println!("{program}: {name}, {cases} records, {} bytes", records.len() - before);
+            let bytes = records.len() - before;
+            println!("{program}: {name}, {cases} records, {bytes} bytes, with a cut hit: {cut}");
         }
         let before = records.len();
         let unanswered = cases::unanswered(program);

@@ -38,12 +38,20 @@ pub fn ringed(across: [u32; 5], down: [u32; 5], border: u32) -> Gray {
 
 /// Upright finders in a grid, `count` of them, row after row.
 pub fn finder_grid(count: u32, columns: u32, pitch: u32, gap: u32) -> Gray {
-    let cell = 7 * pitch + gap;
-    let (width, height) = (columns * cell + gap, count.div_ceil(columns) * cell + gap);
-    let mut out = Gray::filled(width, height, 255);
+    grid_of(
+        &ringed([1, 1, 3, 1, 1].map(|k| k * pitch), [1, 1, 3, 1, 1].map(|k| k * pitch), 0),
+        count,
+        columns,
+        gap,
+    )
+}
+
+/// A small picture `count` times in a grid, row after row, light between them and around.
+pub fn grid_of(cell: &Gray, count: u32, columns: u32, gap: u32) -> Gray {
+    let (across, down) = (cell.width + gap, cell.height + gap);
+    let mut out = Gray::filled(columns * across + gap, count.div_ceil(columns) * down + gap, 255);
     for n in 0..count {
-        let (x, y) = (n % columns * cell + gap, n / columns * cell + gap);
-        out.draw_finder(x, y, pitch);
+        out.paste(cell, n % columns * across + gap, n / columns * down + gap);
     }
     out
 }

@@ -137,6 +137,11 @@ impl Bytes {
         list.iter().fold(self, |out, f| out.finder(f))
     }
 
+    /// A count of two bytes, and the finders.
+    pub fn table(&mut self, list: &[Finder]) -> &mut Bytes {
+        self.u16(list.len() as u16).finders(list)
+    }
+
     pub fn numbers(&mut self, m: &[f64]) -> &mut Bytes {
         m.iter().fold(self, |out, v| out.f64(*v))
     }

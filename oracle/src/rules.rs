@@ -4,6 +4,14 @@
 use crate::record::{Bytes, Fields};
 use lcr_decode::detect::{Detection, Finder, module_of, score_of};
 
+// ---- limits
+
+/// The most finders of a search, of a stored list and of the preview's answer (document 02, N9).
+pub const MAX_FINDERS: u32 = 1000;
+
+/// The most of a stored list of form 1.
+pub const FORM_ONE_MOST: u32 = 128;
+
 // ---- refusals
 
 /// The first number whose check fails, or 0.
@@ -41,11 +49,11 @@ impl Entry {
         }
     }
 
-    /// The least bytes that C lends for the answer: the firmware's, or a stored list of 128 finders.
+    /// The least bytes that C lends for the answer: the firmware's, or the longest stored list.
     pub fn room(self) -> u32 {
         match self {
             Entry::Chain => 367,
-            Entry::Preview => 6 + 16 * 128,
+            Entry::Preview => list_length(2, MAX_FINDERS as u64) as u32,
         }
     }
 }
@@ -163,14 +171,27 @@ pub struct List {
     pub finders: Vec<Finder>,
 }
 
+/// The bytes of a list in a form: 6 and 16 for each finder, in form 2 one more for its count of two bytes.
+pub fn list_length(form: u8, count: u64) -> u64 {
+    if form == 1 { 6 + 16 * count } else { 7 + 16 * count }
+}
+
+/// 8 for another form byte and for a list shorter than its form's without finders, then 1, 2, then 8 for a count over
+/// the form's most or for another length.
 pub fn read_list(bytes: &[u8]) -> Result<List, u8> {
-    if bytes.len() < 6 || bytes[0] != 1 {
+    let (form, most) = match bytes.first() {
+        Some(1) => (1, FORM_ONE_MOST),
+        Some(2) => (2, MAX_FINDERS),
+        _ => return Err(8),
+    };
+    let length = bytes.len() as u64;
+    if length < list_length(form, 0) {
         return Err(8);
     }
     let mut fields = Fields(&bytes[1..]);
     let (width, height) = (fields.u16() as u32, fields.u16() as u32);
-    let count = fields.u8() as usize;
-    let bad = count > 128 || bytes.len() != 6 + 16 * count;
+    let count = if form == 1 { fields.u8() as u32 } else { fields.u16() as u32 };
+    let bad = count > most || length != list_length(form, count as u64);
     match refusal(&[zero_side(width, height), large_side(width, height), (8, bad)]) {
         0 => {
             let places: Vec<(f32, f32)> = (0..count).map(|_| fields.point()).collect();
@@ -182,9 +203,19 @@ pub fn read_list(bytes: &[u8]) -> Result<List, u8> {
     }
 }
 
+/// The list that the writer makes.
 pub fn written_list(width: u32, height: u32, finders: &[Finder]) -> Vec<u8> {
+    list_in(2, width, height, finders)
+}
+
+/// A list in a form: the form's byte, the sides, the count, the places, then the modules with the confirmations.
+pub fn list_in(form: u8, width: u32, height: u32, finders: &[Finder]) -> Vec<u8> {
     let mut out = Bytes::default();
-    out.u8(1).u16(width as u16).u16(height as u16).u8(finders.len() as u8);
+    out.u8(form).u16(width as u16).u16(height as u16);
+    match form {
+        1 => out.u8(finders.len() as u8),
+        _ => out.u16(finders.len() as u16),
+    };
     finders.iter().for_each(|f| {
         out.f32(f.x).f32(f.y);
     });

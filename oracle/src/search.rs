@@ -2,7 +2,7 @@
 //! published rule confirms, and how the runs of its confirmations ended (N7).
 
 use crate::differences::runs;
-use crate::rules::{End, Run, run_back, run_on};
+use crate::rules::{End, MAX_FINDERS, Run, run_back, run_on};
 use lcr_decode::detect::{Finder, join, match_of};
 use lcr_decode::image::Binary;
 
@@ -108,8 +108,7 @@ pub fn staying(mut held: Vec<Finder>) -> Vec<Finder> {
     held
 }
 
-/// The answer of a search with these hits: the finders that stay, or none where a 129th is held.
-pub fn answer_of<'a>(hits: impl IntoIterator<Item = &'a Hit>) -> Option<Vec<Finder>> {
-    let held = held(hits);
-    (held.len() <= 128).then(|| staying(held))
+/// The answer of a search that holds these finders: those that stay, or none where a 1,001st is held.
+pub fn answer_of(held: Vec<Finder>) -> Option<Vec<Finder>> {
+    (held.len() as u32 <= MAX_FINDERS).then(|| staying(held))
 }

@@ -15,6 +15,7 @@ use Rattle.geometry.specs.declared.Corners.{Corners}
 use Rattle.geometry.specs.declared.Finder.{Finder}
 use Rattle.geometry.specs.Order.{zero_finder}
 use Rattle.finders.specs.declared.Finders.{Finders}
+use Rattle.finders.specs.Search.{max_finders}
 use Rattle.finders.specs.Answer.{table_of as finders_table}
 use Rattle.ranking.specs.declared.Eight.{Eight}
 use Rattle.ranking.specs.declared.Ranked.{Ranked}
@@ -100,4 +101,4 @@ eight_same n xs ys e = rw e refl
 pub first_eight_is : (t : Finders) (fs : List Finder) (e r : Eight) → t ≡ finders_table fs → e ≡ eight_of t.table → r ≡ record { count = min t.count 8; at = e.at } → r ≡ eight_of fs
 unfolding eight_of
 first_eight_is t fs e r q g h =
-    h ∙ rw (g, q) (eight_same (min (length fs) 8) _ _ (tabulate_ext 8 _ _ (λ i l. get_or_table 128 zero_finder fs i zero_finder (omega (arith, l)))))
+    h ∙ rw (g, q) (eight_same (min (length fs) 8) _ _ (tabulate_ext 8 _ _ (λ i l. get_or_table max_finders zero_finder fs i zero_finder (omega (arith, l)))))

@@ -3,7 +3,9 @@ pub mod Places
 pub mod Folding
 pub mod Tables
 pub mod Axes
+pub mod Overs
 pub mod Ranks
 pub mod Outcomes
 pub mod Theorems
 pub mod Published
+pub mod Limits

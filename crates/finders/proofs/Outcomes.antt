@@ -1,19 +1,20 @@
 -- What the searched table says of the answer, and the refusals. Assumes nothing.
-use Rattle.std.proofs.Common.{◌≡◌, ℕ, ◌+◌, ◌≤◌, true, false, List, [], length, sym, ap, ◌∙◌, subst, arith}
+use Rattle.std.proofs.Common.{◌≡◌, ℕ, ◌+◌, ◌≤◌, true, false, List, [], length, sym, ap, ◌∙◌, arith}
 use Rattle.std.specs.Prelude.{Result, Ok, Err, IsErrAnd}
 use Rattle.lcr_core.specs.Outcome.{refusal_number, number_of}
 use Rattle.lcr_core.specs.declared.Refusal.{Refusal}
 use Rattle.lcr_core.specs.declared.Refusal.TheVariants.{FullTable}
 use Rattle.lcr_core.specs.Passed.{Sides}
 use Rattle.lcr_core.proofs.Checks.{refused_first, passed_first}
-use Rattle.lcr_core.proofs.Answers.{number_checked, checked_passed, checked_refused, refused_by}
+use Rattle.lcr_core.proofs.Answers.{number_checked, checked_passed, refused_by}
 use Rattle.binary.specs.Refusal.{bits_refusal}
+use Rattle.geometry.specs.declared.Finder.{Finder}
 use Rattle.finders.specs.declared.Finders.{Finders}
 use Rattle.finders.specs.Held.{Held, held, over}
 use Rattle.finders.specs.Search.{max_finders, found}
 use Rattle.finders.specs.Rank.{ranked}
 use Rattle.finders.specs.Answer.{table_of, held_in, find_checks, find_refusal, finders_of, answer_after, answer_of}
-use Rattle.finders.specs.Inner.{axis_most, Good, Fine, axis, RanksAfter}
+use Rattle.finders.specs.Inner.{axis_most, Good, Fine, axis}
 use Rattle.finders.proofs.Tables.{fine_mono, good_of, good_mono}
 use Rattle.finders.proofs.Axes.{axis_fine, axis_over, found_is}
 
@@ -63,15 +64,8 @@ module _ (bits : List ℕ) (width height : ℕ) (p : Sides width height) (t : Fi
       pub all_few : v.count ≤ max_finders
       all_few = (good_of v (axis bits width height true rows) (0 + axis_most + axis_most) x (ap (axis bits width height true) rows_held ∙ h) all_fine).few
 
-      pub all_ranked : (r : Finders) → r ≡ table_of (ranked (held_in v)) → RanksAfter (found bits width height) (Ok r)
-      all_ranked r e = subst (λ z. RanksAfter z (Ok r)) (sym (all_is ∙ h)) (ap Ok e)
-
-pub six_after : (answer : Result Finders Refusal) (r : Refusal) (s : Held) → IsErrAnd answer (λ e. e ≡ r) → r ≡ FullTable → s ≡ over → RanksAfter s answer
-six_after (Ok x) r s i f o = absurd i
-six_after (Err e) r s i f o = subst (λ z. RanksAfter z (Err e)) (sym o) (ap Err (i ∙ f))
-
--- what `searched` goes by
-pub ruleset search_steps = (none_good, rows_over, rows_good, columns_over, all_few, all_ranked, six_after)
+      pub all_held : found bits width height ≡ held (held_in v)
+      all_held = all_is ∙ h
 
 -- ---- the answer
 module _ (bits : List ℕ) (width height : ℕ) where
@@ -82,14 +76,20 @@ module _ (bits : List ℕ) (width height : ℕ) where
       let cs = find_checks (length bits) width height (found bits width height) in
       refused_by answer r i cs (table_of (finders_of bits width height)) (refused_first 3 cs r e)
 
-  -- what the search answers
-  pub accept : 0 ≡ bits_refusal (length bits) width height → (r : Result Finders Refusal) → RanksAfter (found bits width height) r → r ≡ answer_of bits width height
-  unfolding answer_of bits_refusal
-  accept e r q = go (found bits width height) q
-    where
-      go : (s : Held) → RanksAfter s r → r ≡ answer_after (length bits) width height s
-      go over q = let cs = find_checks (length bits) width height over in q ∙ checked_refused cs (table_of []) FullTable (passed_first 3 cs e)
-      go (held fs) q = let cs = find_checks (length bits) width height (held fs) in q ∙ checked_passed cs (table_of (ranked fs)) (passed_first 3 cs e)
+  -- after the checks, 6 or the finders held at the end, ranked
+  module _ (e : 0 ≡ bits_refusal (length bits) width height) where
+    pub six_is : (answer : Result Finders Refusal) (r : Refusal) → IsErrAnd answer (λ e. e ≡ r) → r ≡ FullTable → found bits width height ≡ over → answer ≡ answer_of bits width height
+    unfolding answer_of bits_refusal
+    six_is answer r i f o =
+        let cs = find_checks (length bits) width height over in
+        refused_by answer r i cs (table_of []) (ap refusal_number f ∙ passed_first 3 cs e)
+        ∙ sym (ap (answer_after (length bits) width height) o)
+
+    pub ranked_is : (fs : List Finder) (t : Finders) → found bits width height ≡ held fs → t ≡ table_of (ranked fs) → Ok t ≡ answer_of bits width height
+    unfolding answer_of bits_refusal
+    ranked_is fs t o q =
+        let cs = find_checks (length bits) width height (held fs) in
+        ap Ok q ∙ checked_passed cs (table_of (ranked fs)) (passed_first 3 cs e) ∙ sym (ap (answer_after (length bits) width height) o)
 
   -- its number, and its finders
   pub answer_number : number_of (answer_of bits width height) ≡ find_refusal bits width height
@@ -105,3 +105,6 @@ module _ (bits : List ℕ) (width height : ℕ) where
 
   pub answer_refusal : (r : Refusal) → Err r ≡ answer_of bits width height → refusal_number r ≡ find_refusal bits width height
   answer_refusal r e = ap number_of e ∙ answer_number
+
+-- what the calls of `find_finders` ask for
+pub ruleset search_steps = (none_good, rows_good, all_few)

@@ -85,7 +85,7 @@ is_over_lem : (s : Held) → is_over s ≡ true → s ≡ over
 is_over_lem over e = refl
 is_over_lem (held fs) e = absurd (true≢false (sym e))
 
--- of a picture: `find_finders` answers 6 only where it is not refused by 1, 2 or 4, and a confirmed hit falls within no held finder while 128 are held
+-- of a picture: `find_finders` answers 6 only where it is not refused by 1, 2 or 4, and a confirmed hit falls within no held finder while max_finders are held
 pub six_only_if : (bits : List ℕ) (w h : ℕ) → number_of (answer_of bits w h) ≡ 6 → (bits_refusal (length bits) w h ≡ 0) × Overflows max_finders [] (sightings bits w h)
 unfolding find_refusal bits_refusal found_by
 six_only_if bits w h e = go (zero_side w h) (large_side w h) (short_bits (length bits) w h) (is_over (found bits w h)) refl (sym (answer_number bits w h) ∙ e)
@@ -147,7 +147,7 @@ unfolding folded
 folded-length gs [] = omega arith
 folded-length gs (f ∷ fs) = omega (arith, folded-length (insert gs f) fs, insert-length gs f)
 
--- of a picture: never more than 128 are given
+-- of a picture: never more than there are places are given
 pub few_finders : (bits : List ℕ) (w h : ℕ) → length (finders_of bits w h) ≤ max_finders
 unfolding ranked found_by
 few_finders bits w h = go (found bits w h) refl

@@ -1,5 +1,5 @@
 -- `find_finders` (document 01, "The eight refusal numbers": 1, 2, 4, "then 6, given if and only if a confirmed hit falls within no held finder while 128
--- are held"; "A refusal gives its number with every other field zero"). Definitions only.
+-- are held", 1,000 by document 02, N9: "refusal 6 is then for the 1,001st"; "A refusal gives its number with every other field zero"). Definitions only.
 use Rattle.std.specs.Prelude.{ℕ, Bool, true, false, List, [], ◌∷◌, ◌++◌, length, take, Result, Ok, Err}
 use Rattle.lists.specs.Lists.{padded}
 use Rattle.lcr_core.specs.Outcome.{Check, first_of}

@@ -1,8 +1,8 @@
 -- The search as the code has it. For contracts of inner functions, and for proofs.
-use Rattle.std.specs.Prelude.{◌≡◌, ℕ, zero, suc, ◌+◌, ◌-◌, ◌*◌, ◌/◌, ◌<◌, ◌≤◌, Bool, true, false, cond, List, [], ◌∷◌, length, nat_lt, Option, Some, None, Result, Ok, Err, MatchResult}
+use Rattle.std.specs.Prelude.{◌≡◌, ℕ, zero, suc, ◌+◌, ◌-◌, ◌*◌, ◌/◌, ◌<◌, ◌≤◌, Bool, true, false, cond, List, [], ◌∷◌, length, nat_lt, Option, Some, None, Result, MatchResult}
 use Rattle.std.specs.Bool.{⊤}
 use Rattle.std.specs.List.{position_or_len}
-use Rattle.lists.specs.Lists.{Each, range, folded, flat_map}
+use Rattle.lists.specs.Lists.{Each, range, folded, flat_map, written}
 use Rattle.lcr_core.specs.Outcome.{max_side}
 use Rattle.lcr_core.specs.declared.Refusal.{Refusal}
 use Rattle.lcr_core.specs.declared.Refusal.TheVariants.{FullTable}
@@ -10,7 +10,7 @@ use Rattle.binary.specs.Line.{row, column}
 use Rattle.finders.specs.Hits.{Hit, runs, hits, line_hits}
 use Rattle.finders.specs.Held.{Sighting, Held, held, over, merge_next}
 use Rattle.finders.specs.Search.{max_finders, seen}
-use Rattle.finders.specs.Rank.{insert, stays, ranked}
+use Rattle.finders.specs.Rank.{insert, stays}
 use Rattle.finders.specs.Answer.{table_of, held_in}
 use Rattle.geometry.specs.declared.Finder.{Finder}
 use Rattle.finders.specs.declared.Finders.{Finders}
@@ -113,11 +113,10 @@ module _ (bits : List ℕ) (width height : ℕ) where
 abbrev pub rank_of : List Finder → ℕ → ℕ
 rank_of fs n = position_or_len (λ (g : Finder). nat_lt g.confirmations n) fs
 
+-- after one finder more, where only those that stay are kept
 abbrev pub keep : List Finder → Finder → List Finder
 keep fs f = cond (stays f) (insert fs f) fs
 
--- ---- the answer
--- what the search ends with: the finders held at its end, ranked, or refusal 6
-abbrev pub RanksAfter : Held → Result Finders Refusal → Type 0
-RanksAfter over r = r ≡ Err FullTable
-RanksAfter (held fs) r = r ≡ Ok (table_of (ranked fs))
+-- a table that holds a list, over places that may hold anything
+abbrev pub held_over : List Finder → List Finder → Finders
+held_over fs old = record { count = length fs; table = written fs old }

@@ -5,3 +5,4 @@ pub mod Held
 pub mod Rank
 pub mod Inner
 pub mod Published
+pub mod Limit

@@ -7,9 +7,9 @@ use Rattle.transform.specs.declared.Point.{Point}
 use Rattle.finders.specs.Hits.{Hit, line_hits}
 use Rattle.finders.specs.Held.{Sighting, Held, held, merge_next}
 
--- the places of the table
+-- the places of the table (document 02, N9)
 abbrev pub max_finders : ℕ
-max_finders = 128
+max_finders = 1000
 
 -- a hit of module m, where it is confirmed
 abbrev pub sighting : Float → Option Point → List Sighting

@@ -11,13 +11,11 @@ use geometry::Finder;
 use lcr_core::Refusal;
 use transform::Point;
 
-// Whether the finder's own module bounds both coordinate distances.
+// Whether the finder's own module bounds both coordinate distances. The second is looked at only where the first is bounded: of many finders most are far away.
 fn is_within(f: Finder, p: Point) -> bool
     ensures { result ≡ within p.x p.y f }
 {
-    let dx = Float::abs(f.x - p.x);
-    let dy = Float::abs(f.y - p.y);
-    (dx <= f.module) & (dy <= f.module)
+    Float::abs(f.x - p.x) <= f.module && Float::abs(f.y - p.y) <= f.module
 }
 
 // The running means with one hit more.

@@ -2,12 +2,10 @@
 #![tactic(auto)]
 
 ghost use Rattle.std.specs.Prelude.{◌≡◌, ◌≤◌, [], length};
-ghost use Rattle.lcr_core.specs.Passed.{Sides};
-ghost use Rattle.finders.specs.Search.{max_finders, found};
+ghost use Rattle.finders.specs.Search.{max_finders};
 ghost use Rattle.finders.specs.Answer.{table_of, held_in, answer_of};
-ghost use Rattle.finders.specs.Inner.{RanksAfter};
 
-use binary::picture::{BitPicture, LentBits};
+use binary::picture::LentBits;
 use geometry::Finder;
 use lcr_core::Refusal;
 use search::scan_axis;
@@ -17,7 +15,7 @@ mod rank;
 mod search;
 
 // The places of the table.
-pub const MAX_FINDERS: usize = 128;
+pub const MAX_FINDERS: usize = 1000;
 
 // So many finders; the places beyond the count are zero. A count beside an array: document 01 fixes this form, and there is no heap.
 #[derive(Clone, Copy)]
@@ -46,21 +44,16 @@ pub fn no_finders() -> Finders
     }
 }
 
-#[tactic(auto, using(crate::proofs::Outcomes::search_steps))]
-fn searched(picture: BitPicture<'_>) -> Result<Finders, Refusal>
-    requires { Sides picture.width picture.height }
-    ensures { let p = picture.entry in RanksAfter (found p.bits.now p.width p.height) result }
-{
-    let mut held = no_finders();
-    scan_axis(picture, false, &mut held)?;
-    scan_axis(picture, true, &mut held)?;
-    Ok(held.ranked())
-}
-
-// The finders of a picture, those with most confirmations first, or a refusal: 1, 2, 4 or 6.
-#[tactic(auto, using(crate::proofs::Outcomes::accept, binary::proofs::Pass::bits_pass))]
+// The finders of a picture, those with most confirmations first, or a refusal: 1, 2, 4 or 6. In one function, since a step between that answered with the
+// table would hold it once more.
+#[tactic(auto, using(crate::proofs::Outcomes::search_steps, binary::proofs::Pass::bits_pass))]
 pub fn find_finders(bits: LentBits<'_>) -> Result<Finders, Refusal>
     ensures { let p = bits.entry in result ≡ answer_of p.bits.now p.width p.height }
 {
-    searched(bits.checked()?)
+    let picture = bits.checked()?;
+    let mut held = no_finders();
+    scan_axis(picture, false, &mut held)?;
+    scan_axis(picture, true, &mut held)?;
+    held.rank();
+    Ok(held)
 }

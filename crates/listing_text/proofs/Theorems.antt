@@ -1,4 +1,4 @@
--- What the definitions say of the listing: where the input isn't refused it is `refused 6` if there is a 129th finder, else the finders of the denoised bits
+-- What the definitions say of the listing: where the input isn't refused it is `refused 6` if there is a 1,001st finder, else the finders of the denoised bits
 -- and their detections, which are the chain's; and extra bytes are ignored. Assumes nothing.
 use mathlib.Core.Path.{◌≡◌, refl, sym, ap, ◌∙◌}
 use mathlib.Core.Bool.{Bool, true, false, cond}
@@ -45,7 +45,7 @@ bits_of l = denoised_picture (picture_of l) (width_of l) (height_of l) (width_of
 abbrev pub answer_for : List ℕ → Result Detections Refusal
 answer_for l = chain_of (picture_of l) (width_of l) (height_of l) (width_of l) 1
 
--- whether there is a 129th finder
+-- whether there is a 1,001st finder
 abbrev pub full_table : List ℕ → Bool
 full_table l = is_over (found (bits_of l) (width_of l) (height_of l))
 

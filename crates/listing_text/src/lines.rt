@@ -99,7 +99,7 @@ impl Text<'_> {
 
     // A line for each of these.
     fn lines<T: Listed>(&mut self, items: &[T])
-        requires { (self.old.at < 2 ^ 20) × (length items.now ≤ 128) }
+        requires { (self.old.at < 2 ^ 20) × (length items.now ≤ max_finders) }
         ensures { Adds (flat_map T.line items.now) (T.room * length items.now) self.old self.new }
     {
         for item in items {

@@ -17,10 +17,11 @@ use Rattle.little_endian.proofs.Round.{length_bytes}
 use Rattle.transform.specs.declared.Point.{Point}
 use Rattle.transform.specs.declared.Transform.{Transform}
 use Rattle.geometry.specs.declared.Finder.{Finder}
+use Rattle.finders.specs.Search.{max_finders}
 use Rattle.candidates.specs.declared.Detection.{Detection}
 use Rattle.firmware.specs.Firmware.{single_bytes, double_bytes, transform_bytes}
 use Rattle.firmware.proofs.Bytes.{length_double, length_transform}
-use Rattle.record.specs.Record.{double_at, finder_at, finders_at, point_bytes, lens_bytes, flag, grade_bytes, digit_of, byte_digits, digits_line, most_bytes, answer_line, line_of}
+use Rattle.record.specs.Record.{double_at, finder_at, finders_at, point_bytes, lens_bytes, flag, grade_bytes, digit_of, byte_digits, digits_line, most_bytes, line_room, answer_line, line_of}
 
 -- ---- numbers
 
@@ -61,7 +62,7 @@ double_behind p n = ap (of_bits binary64) (read_drop 8 p n 0 ∙ ap (read_le 8 p
 -- ---- finders
 
 -- a table into which all finders are read
-pub found_all : (p : List ℕ) (at count : ℕ) (old l : List Finder) (i : ℕ) → i ≡ 128 → length old ≡ 128 → l ≡ filled i (λ k. finder_at p (at + 16 * k)) old → record { count = count; table = l } ≡ finders_at p at count
+pub found_all : (p : List ℕ) (at count : ℕ) (old l : List Finder) (i : ℕ) → i ≡ max_finders → length old ≡ max_finders → l ≡ filled i (λ k. finder_at p (at + 16 * k)) old → record { count = count; table = l } ≡ finders_at p at count
 unfolding finders_at
 found_all p at count old l i h n e =
     ap (λ (z : List Finder). record { count = count; table = z }) (filled_whole i (λ k. finder_at p (at + 16 * k)) old l (h ∙ sym n) e ∙ ap (λ z. tabulate z (λ k. finder_at p (at + 16 * k))) n)
@@ -81,8 +82,8 @@ lowest (suc k) n =
 pub counted : (k n : ℕ) (bs : List ℕ) (at : ℕ) (l : List ℕ) → put bs (at + k) (put (bytes_le k (n % 256 ^ k)) at l) ≡ put (bytes_le k n ++ bs) at l
 counted k n bs at l = rw (lowest k n) (put_then k (bytes_le k n) bs at (at + k) l (length_bytes k n) refl)
 
-pub counted_end : (k n : ℕ) (bs : List ℕ) (at : ℕ) → at + k + length bs ≡ at + length (bytes_le k n ++ bs)
-counted_end k n bs at = omega (arith, length-append (bytes_le k n) bs, length_bytes k n)
+pub length_counted : (k n : ℕ) (bs : List ℕ) → length (bytes_le k n ++ bs) ≡ k + length bs
+length_counted k n bs = omega (arith, length-append (bytes_le k n) bs, length_bytes k n)
 
 -- ---- behind the first byte
 
@@ -169,6 +170,6 @@ length_line n out = length-append (flat_map byte_digits (tabulate n (λ i. get_o
 
 -- m of the bytes asked for
 pub some_line : (n m : ℕ) (out text : List ℕ) (len : ℕ) → eqb n 0 ≡ false → m ≡ min n most_bytes
-    → text ≡ put (digits_line m out) 0 (replicate 4609 0) → len ≡ 2 * m + 1 → record { text = text; len = len } ≡ line_of (answer_line n out)
+    → text ≡ put (digits_line m out) 0 (replicate line_room 0) → len ≡ 2 * m + 1 → record { text = text; len = len } ≡ line_of (answer_line n out)
 unfolding answer_line
 some_line n m out text len h e t l = rw (h, ← e, t, l, length_line m out)

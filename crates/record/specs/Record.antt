@@ -72,13 +72,13 @@ doubles_bytes xs = flat_map double_bytes (tabulate 8 (λ i. slice_index_or xs i 
 abbrev pub lens_bytes : Transform → List ℕ
 lens_bytes t = transform_bytes t ++ (double_bytes t.cx ++ (double_bytes t.cy ++ double_bytes t.strength))
 
--- count, one byte, and finders
+-- count, two bytes, and finders
 abbrev pub finders_bytes : Finders → List ℕ
-finders_bytes t = bytes_le 1 t.count ++ flat_map finder_bytes (held_in t)
+finders_bytes t = bytes_le 2 t.count ++ flat_map finder_bytes (held_in t)
 
--- number, count of two bytes, and finders
+-- number, count and finders
 abbrev pub preview_bytes : ℕ → Finders → List ℕ
-preview_bytes refusal t = refusal ∷ (bytes_le 2 t.count ++ flat_map finder_bytes (held_in t))
+preview_bytes refusal t = refusal ∷ finders_bytes t
 
 -- number, count and detections
 abbrev pub detections_bytes : ℕ → Detections → List ℕ
@@ -175,9 +175,13 @@ byte_digits b = digit_of (b / 16 % 16) ∷ digit_of (b % 16) ∷ []
 abbrev pub digits_line : ℕ → List ℕ → List ℕ
 digits_line n out = flat_map byte_digits (tabulate n (λ i. slice_index out i)) ++ (10 ∷ [])
 
--- the most bytes of an answer
+-- the most bytes of an answer, those of record 97: number, count, a full table of finders and the eight slices
 abbrev pub most_bytes : ℕ
-most_bytes = 2304
+most_bytes = 1 + 2 + 16 * max_finders + 8 * 12
+
+-- the most bytes of its line
+abbrev pub line_room : ℕ
+line_room = 2 * most_bytes + 1
 
 -- the line that answers a call by the first n bytes, or as many as there are: `-` where n is 0
 unfoldable pub answer_line : ℕ → List ℕ → List ℕ
@@ -185,4 +189,4 @@ answer_line n out = cond (n == 0) (45 ∷ 10 ∷ []) (digits_line (min n most_by
 
 -- the bytes of a line, with zeros behind them up to the longest
 abbrev pub line_of : List ℕ → Line
-line_of bytes = record { text = put bytes 0 (replicate (2 * most_bytes + 1) 0); len = length bytes }
+line_of bytes = record { text = put bytes 0 (replicate line_room 0); len = length bytes }

@@ -4,13 +4,16 @@
 
 ghost use Rattle.std.specs.Prelude.{◌≡◌, ◌+◌, ◌*◌, ◌≤◌, length, take};
 ghost use Rattle.little_endian.specs.Bytes.{put};
-ghost use Rattle.record.specs.Record.{fixed_part, asked_of, ReadInto, digits_line, answer_line, line_of};
+ghost use Rattle.record.specs.Record.{fixed_part, asked_of, ReadInto, digits_line, most_bytes, line_room, answer_line, line_of};
 
 pub mod slices;
 pub mod values;
 
-// The most bytes of an answer.
-pub const ANSWER: usize = 2304;
+// The most bytes of an answer: those of record 97, which are a number, a count of two bytes, a full table of finders and eight slices.
+pub const ANSWER: usize = 1 + 2 + 16 * finders::MAX_FINDERS + 8 * 12;
+
+// The most bytes of its line: two digits for each byte, and a line feed.
+const LINE: usize = 2 * ANSWER + 1;
 
 // A record that was read: its function's number, 0 where the payload is too short for it, and the payload's length.
 #[derive(Clone, Copy)]
@@ -22,7 +25,7 @@ pub struct Call {
 // The bytes of a line, with zeros behind them.
 #[derive(Drop)]
 pub struct Line {
-    pub text: [u8; 4609],
+    pub text: [u8; LINE],
     pub len: usize,
 }
 
@@ -114,7 +117,7 @@ pub fn read(payload: &mut [u8]) -> Option<Call>
 
 // The first n bytes of an answer as hexadecimal digits and a line feed, in text; how many bytes these are.
 fn spell(out: &[u8; ANSWER], n: usize, text: &mut [u8]) -> usize
-    requires { (n ≤ 2304) × (length text.old ≡ 4609) }
+    requires { (n ≤ most_bytes) × (length text.old ≡ line_room) }
     ensures line { text.new ≡ put (digits_line n out.now) 0 text.old }
     ensures len { result ≡ 2 * n + 1 }
 {
@@ -132,7 +135,7 @@ fn spell(out: &[u8; ANSWER], n: usize, text: &mut [u8]) -> usize
 pub fn answer_line(out: &[u8; ANSWER], n: usize) -> Line
     ensures { result ≡ line_of (answer_line n out.now) }
 {
-    let mut text = [0u8; 4609];
+    let mut text = [0u8; LINE];
     if n == 0 {
         text[0] = b'-';
         text[1] = b'\n';

@@ -1,6 +1,6 @@
 // Floats, points, transforms and finders at places of records and answers. Slice and place go one by one: the places are docs/REPLAY.md's, in no order that
 // a reader or writer with a place of its own would keep.
-ghost use Rattle.std.specs.Prelude.{◌≡◌, ◌+◌, ◌^◌, ◌<◌, ◌≤◌, ◌++◌, length, slice_set};
+ghost use Rattle.std.specs.Prelude.{◌≡◌, ◌+◌, ◌^◌, ◌<◌, ◌++◌, length, slice_set};
 ghost use Rattle.lists.specs.Lists.{flat_map};
 ghost use Rattle.little_endian.specs.Bytes.{put};
 ghost use Rattle.finders.specs.Answer.{held_in};
@@ -145,7 +145,7 @@ pub fn finders_at(p: &[u8], at: u8, count: u32) -> Finders
 
 // The finders that a table holds; the place after them.
 fn put_held(out: &mut [u8], at: u16, t: Finders) -> usize
-    requires { at ≤ 256 }
+    requires { at < 2 ^ 15 }
     ensures bytes { out.new ≡ put (flat_map finder_bytes (held_in t)) at out.old }
     ensures next { result ≡ at + length (flat_map finder_bytes (held_in t)) }
 {
@@ -156,23 +156,24 @@ fn put_held(out: &mut [u8], at: u16, t: Finders) -> usize
     at as usize + 16 * held.len()
 }
 
-// A count of one byte and the finders; the place after them.
+// A count of two bytes and the finders; the place after them.
+#[tactic(auto, using(crate::proofs::Parts::counted, crate::proofs::Parts::length_counted))]
 pub fn put_finders(out: &mut [u8], at: u8, t: Finders) -> usize
     ensures bytes { out.new ≡ put (finders_bytes t) at out.old }
     ensures next { result ≡ at + length (finders_bytes t) }
 {
-    little_endian::put::<u8>(out, at as u32, (t.count % 256) as u8);
-    put_held(out, at as u16 + 1, t)
+    little_endian::put::<u16>(out, at as u32, (t.count % 65536) as u16);
+    put_held(out, at as u16 + 2, t)
 }
 
-// A refusal number, a count of two bytes and the finders; the place after them.
+// A refusal number, the count and the finders; the place after them.
+#[tactic(auto, using(little_endian::proofs::One::put_one), unfolding(little_endian::specs::Bytes::put))]
 pub fn put_preview(out: &mut [u8], refusal: u8, t: Finders) -> usize
     ensures bytes { out.new ≡ put (preview_bytes refusal t) 0 out.old }
     ensures next { result ≡ length (preview_bytes refusal t) }
 {
     little_endian::put::<u8>(out, 0, refusal);
-    little_endian::put::<u16>(out, 1, (t.count % 65536) as u16);
-    put_held(out, 3, t)
+    put_finders(out, 1, t)
 }
 
 // The count and the detections behind one byte.

@@ -9,16 +9,8 @@ fn find_finders(p: &[u8], out: &mut [u8]) -> usize {
         width: little_endian::get::<u32>(p, 0),
         height: little_endian::get::<u32>(p, 4),
     });
-    match answer {
-        Ok(found) => {
-            little_endian::put::<u8>(out, 0, 0);
-            values::put_finders(out, 1, found)
-        }
-        Err(refusal) => {
-            little_endian::put::<u8>(out, 0, u8::from(refusal));
-            values::put_finders(out, 1, finders::no_finders())
-        }
-    }
+    little_endian::put::<u8>(out, 0, lcr_core::number(answer));
+    values::put_finders(out, 1, answer.unwrap_or(finders::no_finders()))
 }
 
 fn read_list(p: &[u8], out: &mut [u8]) -> usize {
@@ -30,7 +22,7 @@ fn read_list(p: &[u8], out: &mut [u8]) -> usize {
         }
         Err(refusal) => {
             little_endian::put::<u8>(out, 0, u8::from(refusal));
-            10
+            11
         }
     }
 }

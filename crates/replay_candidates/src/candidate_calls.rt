@@ -1,5 +1,5 @@
 // Records 80 to 82: the detections of lent finders and of pictures.
-ghost use Rattle.std.specs.Prelude.{◌≡◌, ◌≤◌, take};
+ghost use Rattle.std.specs.Prelude.{◌≡◌, ◌≤◌, length, take};
 ghost use Rattle.candidates.specs.Candidates.{from_answer};
 
 use crate::picture_at;
@@ -9,17 +9,20 @@ use geometry::Finder;
 use lcr_core::{Refusal, number};
 use record::values;
 
+// The most finders that are lent.
+const LENT: usize = 1200;
+
 // The detections of a table's first n finders, lent as a list.
-fn lend(bits: LentBits<'_>, list: [Finder; 512], n: usize) -> Result<Detections, Refusal>
-    requires { n ≤ 512 }
+fn lend(bits: LentBits<'_>, list: [Finder; LENT], n: usize) -> Result<Detections, Refusal>
+    requires { n ≤ length list }
     ensures { let p = bits.entry in result ≡ from_answer p.bits.now p.width p.height (take n list) }
 {
     candidates::candidates_from(bits, &list[..n])
 }
 
 // The finders that a record's list can have; what follows the list is read as finders too, and not lent.
-fn list_at(p: &[u8]) -> [Finder; 512] {
-    let mut list = [Finder::zero(); 512];
+fn list_at(p: &[u8]) -> [Finder; LENT] {
+    let mut list = [Finder::zero(); LENT];
     for (i, f) in list.iter_mut().enumerate() {
         *f = values::finder_at(p, 12 + 16 * i as u16);
     }
@@ -34,7 +37,7 @@ fn put_answer(out: &mut [u8], answer: Result<Detections, Refusal>) -> usize {
 
 fn candidates_from(p: &[u8], out: &mut [u8]) -> usize {
     let n = little_endian::get::<u32>(p, 8) as usize;
-    if 512 < n {
+    if LENT < n {
         return 0;
     }
     if p.len() < 12 + 16 * n {

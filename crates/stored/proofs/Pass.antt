@@ -1,38 +1,47 @@
 -- What is known where the checks pass, and what a refusal gives. Assumes nothing.
-use mathlib.Core.Path.{◌≡◌, sym, ap, ◌∙◌}
-use mathlib.Core.Bool.{false, not}
-use mathlib.Core.List.{List, [], ◌∷◌, ◌++◌}
-use Prim.Native.Nat.{ℕ, ◌+◌, ◌≤◌, ◌<◌}
-use native.Mathlib.Numerals.{add-one}
-use lib.Dec.{eqb}
-use lib.ListN.{length, set, length-append}
-use borrow.Author.Tests.{ltb-false}
+use Rattle.std.proofs.Common.{◌≡◌, ℕ, ◌+◌, ◌≤◌, ◌<◌, Bool, true, false, cond, not, eqb, List, [], ◌∷◌, ◌++◌, length, set, sym, ap, ◌∙◌, le_trans, length-append, add-one, ltb-false}
 use Rattle.lists.specs.Lists.{tabulate, padded}
 use Rattle.lists.proofs.Padded.{padded_more}
 use Rattle.lists.proofs.Tabulate.{length-tabulate}
-use Rattle.lcr_core.specs.Outcome.{first_of, zero_side, large_side}
+use Rattle.lcr_core.specs.Outcome.{refusal_number, first_of, zero_side, large_side, sides_refusal}
+use Rattle.lcr_core.specs.declared.Refusal.{Refusal}
 use Rattle.lcr_core.specs.Passed.{Sides}
-use Rattle.lcr_core.proofs.Checks.{or_false, first_passes, sides_pass}
+use Rattle.lcr_core.proofs.Checks.{or_false, first_passes, sides_pass, sides_allowed, some_number}
 use Rattle.geometry.specs.declared.Finder.{Finder}
 use Rattle.geometry.specs.Order.{zero_finder}
 use Rattle.finders.specs.declared.Finders.{Finders}
 use Rattle.finders.specs.Search.{max_finders}
 use Rattle.finders.specs.Answer.{table_of}
-use Rattle.stored.specs.Stored.{size_of, width_in, height_in, count_in, bad_head, many_finders, bad_length, read_refusal, short_output, write_checks}
+use Rattle.stored.specs.Stored.{Form, form_two, form_in, count_in, size_in, size_of, bad_length, many_finders, short_output, write_checks}
+use Rattle.stored.proofs.Forms.{form_fits}
 
-few_finders : (n : ℕ) → many_finders n ≡ false → n ≤ max_finders
-unfolding many_finders
-few_finders n e = ltb-false max_finders n e
+-- ---- checks of the sides, and others behind them: these decide where the sides pass
+pub sides_then : (w h rest : ℕ) → 0 ≡ sides_refusal w h → cond (zero_side w h) 1 (cond (large_side w h) 2 rest) ≡ rest
+sides_then w h rest e = let p = sides_allowed w h e in rw (← p.0, ← p.1)
+
+-- else the sides' refusal
+pub sides_refused : (r : Refusal) (w h rest : ℕ) → refusal_number r ≡ sides_refusal w h → cond (zero_side w h) 1 (cond (large_side w h) 2 rest) ≡ refusal_number r
+unfolding sides_refusal
+sides_refused r w h rest e = go (zero_side w h) (large_side w h) e
+  where
+    go : (z l : Bool) → refusal_number r ≡ cond z 1 (cond l 2 0) → cond z 1 (cond l 2 rest) ≡ refusal_number r
+    go true l q = sym q
+    go false true q = sym q
+    go false false q = absurd (some_number r q)
 
 -- ---- the reader
-pub read_pass : (bytes : List ℕ) → read_refusal bytes ≡ 0 → count_in bytes ≤ max_finders
-unfolding read_refusal bad_length
-read_pass bytes e =
-    let p = first_passes (bad_head bytes) 7 _ e in
-    let q = first_passes (zero_side (width_in bytes) (height_in bytes)) 0 _ p.1 in
-    let r = first_passes (large_side (width_in bytes) (height_in bytes)) 1 _ q.1 in
-    let s = first_passes (bad_length (length bytes) (count_in bytes)) 7 _ r.1 in
-    few_finders (count_in bytes) (or_false (many_finders (count_in bytes)) (not (eqb (length bytes) (size_of (count_in bytes)))) s.0).0
+-- a count that is not over the most
+pub few_finders : (f : Form) (n : ℕ) → false ≡ many_finders f n → n ≤ f.most
+unfolding many_finders
+few_finders f n e = ltb-false f.most n (sym e)
+
+-- the finders that are read fit the table
+pub few_read : (bytes : List ℕ) (len : ℕ) → false ≡ bad_length (form_in bytes) len (count_in bytes) → count_in bytes ≤ max_finders
+unfolding bad_length
+few_read bytes len e =
+    let f = form_in bytes in
+    let p = or_false (many_finders f (count_in bytes)) (not (eqb len (size_in f (count_in bytes)))) (sym e) in
+    le_trans (few_finders f (count_in bytes) (sym p.0)) (form_fits bytes)
 
 -- one finder more in a table
 pub one_more : (t : Finders) (g : ℕ → Finder) (k : ℕ) (f : Finder) → t ≡ table_of (tabulate k g) → k < max_finders → f ≡ g k
@@ -52,11 +61,11 @@ one_more t g k f e h q =
     same p q = rw (p, q)
 
 -- ---- the writer
-pub write_pass : (count w h len : ℕ) → first_of (write_checks count w h len) ≡ 0 → Sides w h × (count ≤ max_finders) × (size_of count ≤ len)
+pub write_pass : (count w h len : ℕ) → 0 ≡ first_of (write_checks count w h len) → Sides w h × (count ≤ max_finders) × (size_of count ≤ len)
 unfolding short_output
 write_pass count w h len e =
-    let p = first_passes (zero_side w h) 0 _ e in
+    let p = first_passes (zero_side w h) 0 _ (sym e) in
     let q = first_passes (large_side w h) 1 _ p.1 in
-    let r = first_passes (many_finders count) 7 _ q.1 in
+    let r = first_passes (many_finders form_two count) 7 _ q.1 in
     let s = first_passes (short_output len count) 4 _ r.1 in
-    (sides_pass w h p.0 q.0, few_finders count r.0, ltb-false len (size_of count) s.0)
+    (sides_pass w h p.0 q.0, few_finders form_two count (sym r.0), ltb-false len (size_of count) s.0)

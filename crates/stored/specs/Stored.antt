@@ -1,5 +1,7 @@
--- The stored list of a picture's finders, its reader and its writer (document 01, "The eight refusal numbers", last paragraph). Definitions only.
-use Rattle.std.specs.Prelude.{ℕ, ◌+◌, ◌*◌, Bool, not, ◌||◌, List, [], ◌∷◌, ◌++◌, eqb, ltb, length, get_or, Result}
+-- The stored list of a picture's finders, its reader and its writer (document 01, "The eight refusal numbers", last paragraph; document 02, N9: "The stored
+-- list gets form 2, with a two-byte count and the rest as before, so its length is 7 + 16 × count. Form 1 is still read, up to its 128, and the same
+-- finders come out of it; the writer makes form 2 only"). Definitions only.
+use Rattle.std.specs.Prelude.{ℕ, ◌+◌, ◌*◌, Bool, cond, not, ◌||◌, List, [], ◌∷◌, ◌++◌, eqb, ltb, length, get_or, Result}
 use Rattle.std.specs.Float.{binary32}
 use Rattle.std.specs.Float.Ieee.{to_bits, of_bits}
 use Rattle.lists.specs.Lists.{tabulate, flat_map}
@@ -14,10 +16,26 @@ use Rattle.finders.specs.Search.{max_finders}
 use Rattle.finders.specs.Answer.{table_of}
 use Rattle.stored.specs.declared.Stored.{Stored}
 
--- ---- the form, little-endian
--- form byte 1, width and height of two bytes, count of one byte
-abbrev pub head_bytes : ℕ → ℕ → ℕ → List ℕ
-head_bytes width height count = 1 ∷ (bytes_le 2 width ++ (bytes_le 2 height ++ (count ∷ [])))
+-- ---- the two forms, little-endian
+-- a form: its first byte, how many bytes the count has, how many finders there are at most
+pub record Form : Type 0 where
+  pub byte : ℕ
+  pub wide : ℕ
+  pub most : ℕ
+
+abbrev pub form_one : Form
+form_one = record { byte = 1; wide = 1; most = 128 }
+
+abbrev pub form_two : Form
+form_two = record { byte = 2; wide = 2; most = max_finders }
+
+-- the bytes before the pairs
+abbrev pub head_size : Form → ℕ
+head_size f = 5 + f.wide
+
+-- form byte, width and height of two bytes, count
+abbrev pub head_bytes : Form → ℕ → ℕ → ℕ → List ℕ
+head_bytes f width height count = f.byte ∷ (bytes_le 2 width ++ (bytes_le 2 height ++ bytes_le f.wide count))
 
 -- a pair (x, y): each number four bytes, floats as their bits
 abbrev pub place_bytes : Finder → List ℕ
@@ -27,15 +45,19 @@ place_bytes f = bytes_le 4 (to_bits binary32 f.x) ++ bytes_le 4 (to_bits binary3
 abbrev pub size_bytes : Finder → List ℕ
 size_bytes f = bytes_le 4 (to_bits binary32 f.«module») ++ bytes_le 4 f.confirmations
 
--- the whole list
-unfoldable pub stored_bytes : ℕ → ℕ → List Finder → List ℕ
-stored_bytes width height fs = head_bytes width height (length fs) ++ (flat_map place_bytes fs ++ flat_map size_bytes fs)
+-- the whole list in a form
+unfoldable pub stored_in : Form → ℕ → ℕ → List Finder → List ℕ
+stored_in f width height fs = head_bytes f width height (length fs) ++ (flat_map place_bytes fs ++ flat_map size_bytes fs)
 
 -- its length
-abbrev pub size_of : ℕ → ℕ
-size_of count = 6 + 16 * count
+abbrev pub size_in : Form → ℕ → ℕ
+size_in f count = head_size f + 16 * count
 
 -- ---- the reader
+-- the form that the first byte names; form 1 too where it names none, which `bad_head` refuses
+abbrev pub form_in : List ℕ → Form
+form_in bytes = cond (eqb (get_or bytes 0 0) form_two.byte) form_two form_one
+
 -- the sides and the count, from the head
 abbrev pub width_in : List ℕ → ℕ
 width_in bytes = read_le 2 bytes 1
@@ -44,29 +66,32 @@ abbrev pub height_in : List ℕ → ℕ
 height_in bytes = read_le 2 bytes 3
 
 abbrev pub count_in : List ℕ → ℕ
-count_in bytes = get_or bytes 5 0
+count_in bytes = read_le (form_in bytes).wide bytes 5
 
 -- finder k of so many
-unfoldable pub finder_at : List ℕ → ℕ → ℕ → Finder
-finder_at bytes count k =
+unfoldable pub finder_at : Form → List ℕ → ℕ → ℕ → Finder
+finder_at f bytes count k =
+    let places = head_size f + 8 * k in
+    let sizes = head_size f + 8 * count + 8 * k in
     record {
-      x = of_bits binary32 (read_le 4 bytes (6 + 8 * k));
-      y = of_bits binary32 (read_le 4 bytes (6 + 8 * k + 4));
-      «module» = of_bits binary32 (read_le 4 bytes (6 + 8 * count + 8 * k));
-      confirmations = read_le 4 bytes (6 + 8 * count + 8 * k + 4);
+      x = of_bits binary32 (read_le 4 bytes places);
+      y = of_bits binary32 (read_le 4 bytes (places + 4));
+      «module» = of_bits binary32 (read_le 4 bytes sizes);
+      confirmations = read_le 4 bytes (sizes + 4);
     }
 
--- 8: under 6 bytes or another form
+-- 8: another form, or fewer bytes than its head has: 6 of form 1, 7 of form 2
 unfoldable pub bad_head : List ℕ → Bool
-bad_head bytes = ltb (length bytes) 6 || not (eqb (get_or bytes 0 0) 1)
+bad_head bytes =
+    not (eqb (get_or bytes 0 0) form_one.byte || eqb (get_or bytes 0 0) form_two.byte) || ltb (length bytes) (head_size (form_in bytes))
 
--- 8: the count is over the table's places
-unfoldable pub many_finders : ℕ → Bool
-many_finders count = ltb max_finders count
+-- 8: the count is over the form's most
+unfoldable pub many_finders : Form → ℕ → Bool
+many_finders f count = ltb f.most count
 
--- 8: that, or the length isn't 6 + 16 × count
-unfoldable pub bad_length : ℕ → ℕ → Bool
-bad_length len count = many_finders count || not (eqb len (size_of count))
+-- 8: that, or the length isn't the form's: 6 + 16 × count of form 1, 7 + 16 × count of form 2
+unfoldable pub bad_length : Form → ℕ → ℕ → Bool
+bad_length f len count = many_finders f count || not (eqb len (size_in f count))
 
 -- 8, 1, 2, 8
 abbrev pub read_checks : List ℕ → List Check
@@ -74,7 +99,7 @@ read_checks bytes =
     record { refuses = bad_head bytes; refusal = BadList }
     ∷ record { refuses = zero_side (width_in bytes) (height_in bytes); refusal = ZeroSide }
     ∷ record { refuses = large_side (width_in bytes) (height_in bytes); refusal = LargeSide }
-    ∷ record { refuses = bad_length (length bytes) (count_in bytes); refusal = BadList }
+    ∷ record { refuses = bad_length (form_in bytes) (length bytes) (count_in bytes); refusal = BadList }
     ∷ []
 
 -- the number of the first that refuses
@@ -83,13 +108,21 @@ read_refusal bytes = first_of (read_checks bytes)
 
 -- what the list holds
 abbrev pub list_in : List ℕ → Stored
-list_in bytes = record { width = width_in bytes; height = height_in bytes; finders = table_of (tabulate (count_in bytes) (finder_at bytes (count_in bytes))) }
+list_in bytes = record { width = width_in bytes; height = height_in bytes; finders = table_of (tabulate (count_in bytes) (finder_at (form_in bytes) bytes (count_in bytes))) }
 
 -- `read_list`: that, or a refusal
 unfoldable pub read_of : List ℕ → Result Stored Refusal
 read_of bytes = checked (read_checks bytes) (list_in bytes)
 
 -- ---- the writer
+-- the list that it makes: form 2
+abbrev pub stored_bytes : ℕ → ℕ → List Finder → List ℕ
+stored_bytes width height fs = stored_in form_two width height fs
+
+-- its length
+abbrev pub size_of : ℕ → ℕ
+size_of count = size_in form_two count
+
 -- 5: the output is too short
 unfoldable pub short_output : ℕ → ℕ → Bool
 short_output len count = ltb len (size_of count)
@@ -99,7 +132,7 @@ abbrev pub write_checks : ℕ → ℕ → ℕ → ℕ → List Check
 write_checks count width height len =
     record { refuses = zero_side width height; refusal = ZeroSide }
     ∷ record { refuses = large_side width height; refusal = LargeSide }
-    ∷ record { refuses = many_finders count; refusal = BadList }
+    ∷ record { refuses = many_finders form_two count; refusal = BadList }
     ∷ record { refuses = short_output len count; refusal = ShortOutput }
     ∷ []
 

@@ -16,7 +16,7 @@ mod read;
 mod write;
 
 // The bytes of the longest list.
-pub const MAX_SIZE: usize = 6 + 16 * finders::MAX_FINDERS;
+pub const MAX_SIZE: usize = 7 + 16 * finders::MAX_FINDERS;
 
 // What a stored list holds.
 #[derive(Clone, Copy)]
@@ -27,18 +27,20 @@ pub struct Stored {
 }
 
 // The sides and the finders of a stored list, or a refusal: 8, 1, 2 or 8, in this order.
+#[tactic(auto, using(lcr_core::proofs::Answers::refused_by, lcr_core::proofs::Answers::checked_passed), unfolding(crate::specs::Stored::read_refusal, crate::specs::Stored::read_of))]
 pub fn read_list(bytes: &[u8]) -> Result<Stored, Refusal>
     ensures { result ≡ read_of bytes.now }
 {
-    check::check_read(bytes)?;
+    let head = check::check_read(bytes)?;
     Ok(Stored {
         width: get::<u16>(bytes, 1),
         height: get::<u16>(bytes, 3),
-        finders: read::read_finders(bytes, get::<u8>(bytes, 5) as u32),
+        finders: read::read_finders(bytes, head),
     })
 }
 
 // Stores the finders of a picture of such sides and answers how many bytes it wrote, or refuses: 1, 2, 8 or 5, in this order.
+#[tactic(auto, using(lcr_core::proofs::Checks::same_number, lcr_core::proofs::Checks::unless_error, crate::proofs::Pass::write_pass), unfolding(crate::specs::Stored::write_refusal))]
 pub fn write_list(finders: Finders, width: u32, height: u32, out: &mut [u8]) -> Result<u32, Refusal>
     ensures refusal { number_of result ≡ write_refusal finders width height (length out.old) }
     ensures len { IfOk result (λ len. len ≡ size_of finders.count) }
@@ -47,5 +49,5 @@ pub fn write_list(finders: Finders, width: u32, height: u32, out: &mut [u8]) -> 
     let count = finders.count;
     check::check_write(count, width, height, out.len())?;
     write::put_list(out, finders, width as u16, height as u16);
-    Ok(6 + 16 * count as u32)
+    Ok(7 + 16 * count as u32)
 }

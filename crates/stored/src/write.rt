@@ -4,21 +4,23 @@ ghost use Rattle.lists.specs.Lists.{flat_map, written};
 ghost use Rattle.little_endian.specs.Bytes.{bytes_le, put};
 ghost use Rattle.finders.specs.Search.{max_finders};
 ghost use Rattle.finders.specs.Answer.{held_in};
-ghost use Rattle.stored.specs.Stored.{head_bytes, place_bytes, size_bytes, size_of, stored_bytes};
+ghost use Rattle.stored.specs.Stored.{form_two, head_bytes, place_bytes, size_bytes, size_of, stored_bytes};
 
 use finders::Finders;
 use float::Float;
 use little_endian::put;
 
-fn put_head(out: &mut [u8], width: u16, height: u16, count: u8)
-    ensures { out.new ≡ put (head_bytes width height count) 0 out.old }
+#[tactic(auto, using(crate::proofs::Bytes::head_is))]
+fn put_head(out: &mut [u8], width: u16, height: u16, count: u16)
+    ensures { out.new ≡ put (head_bytes form_two width height count) 0 out.old }
 {
-    put::<u8>(out, 0, 1);
+    put::<u8>(out, 0, 2);
     put::<u16>(out, 1, width);
     put::<u16>(out, 3, height);
-    put::<u8>(out, 5, count);
+    put::<u16>(out, 5, count);
 }
 
+#[tactic(auto, using(crate::proofs::Bytes::pair_is))]
 fn put_pair(out: &mut [u8], at: u32, a: u32, b: u32)
     requires { at < 2 ^ 16 }
     ensures { out.new ≡ put (bytes_le 4 a ++ bytes_le 4 b) at out.old }
@@ -27,35 +29,38 @@ fn put_pair(out: &mut [u8], at: u32, a: u32, b: u32)
     put::<u32>(out, at + 4, b);
 }
 
+#[tactic(auto, using(crate::proofs::Bytes::place_more), unfolding(lists::specs::Lists::flat_map, little_endian::specs::Bytes::put))]
 fn put_places(out: &mut [u8], t: Finders)
     requires { t.count ≤ max_finders }
-    ensures { out.new ≡ put (flat_map place_bytes (held_in t)) 6 out.old }
+    ensures { out.new ≡ put (flat_map place_bytes (held_in t)) 7 out.old }
 {
     for (k, f) in t.table[..t.count].iter().enumerate() {
-        put_pair(out, 6 + 8 * k as u32, f.x.bits(), f.y.bits());
+        put_pair(out, 7 + 8 * k as u32, f.x.bits(), f.y.bits());
     }
 }
 
+#[tactic(auto, using(crate::proofs::Bytes::size_more), unfolding(lists::specs::Lists::flat_map, little_endian::specs::Bytes::put))]
 fn put_sizes(out: &mut [u8], t: Finders)
     requires { t.count ≤ max_finders }
-    ensures { out.new ≡ put (flat_map size_bytes (held_in t)) (6 + 8 * t.count) out.old }
+    ensures { out.new ≡ put (flat_map size_bytes (held_in t)) (7 + 8 * t.count) out.old }
 {
     for (k, f) in t.table[..t.count].iter().enumerate() {
         put_pair(
             out,
-            6 + 8 * t.count as u32 + 8 * k as u32,
+            7 + 8 * t.count as u32 + 8 * k as u32,
             f.module.bits(),
             f.confirmations,
         );
     }
 }
 
+#[tactic(auto, using(crate::proofs::Bytes::stored_is))]
 pub fn put_list(out: &mut [u8], t: Finders, width: u16, height: u16)
     requires { (t.count ≤ max_finders) × (size_of t.count ≤ length out.old) }
     ensures { out.new ≡ written (stored_bytes width height (held_in t)) out.old }
 {
     let count = t.count;
-    put_head(out, width, height, count as u8);
+    put_head(out, width, height, count as u16);
     put_places(out, t);
     put_sizes(out, t);
 }

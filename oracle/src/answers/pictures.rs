@@ -76,15 +76,15 @@ pub fn answer(function: u8, f: &mut Fields, out: &mut Bytes) -> Source {
     Source::Rust
 }
 
-/// The finders of a picture, or none where a 129th is added: the Rust's, unless a hit that it confirms is cut.
+/// The finders of a picture, or none where a 1,001st is added: the Rust's, unless a hit that it confirms is cut.
 pub fn finders_of(bin: &Binary) -> (Option<Vec<Finder>>, Source) {
     let (hits, added, found) = (hits(bin), all_held(bin), find_finders(bin));
     assert_eq!(bytes_of(&held(&hits)), bytes_of(&added), "the hits that the search confirms");
-    let full = added.len() > 128;
+    let full = added.len() as u32 > MAX_FINDERS;
     assert_eq!(bytes_of(&staying(added)), bytes_of(&found), "the list that the search keeps");
     coverage::note_search(&hits);
     if hits.iter().any(|h| h.dropped()) {
-        return (answer_of(hits.iter().filter(|h| !h.dropped())), Source::Cut);
+        return (answer_of(held(hits.iter().filter(|h| !h.dropped()))), Source::Cut);
     }
     ((!full).then_some(found), Source::Rust)
 }
@@ -96,24 +96,23 @@ pub fn finders_answer(function: u8, f: &mut Fields, out: &mut Bytes) -> Source {
             let bits = f.rest();
             let number = bits_refusal(width, height, bits.len());
             if number != 0 {
-                out.u8(number).u8(0);
+                out.u8(number).table(&[]);
                 return Source::Rust;
             }
             let (found, source) = finders_of(&binary_of(width, height, bits));
             match found {
-                Some(list) => out.u8(0).u8(list.len() as u8).finders(&list),
-                None => out.u8(6).u8(0),
+                Some(list) => out.u8(0).table(&list),
+                None => out.u8(6).table(&[]),
             };
             return source;
         }
         33 => {
             match read_list(f.rest()) {
                 Ok(list) => {
-                    out.u8(0).u32(list.width).u32(list.height).u8(list.finders.len() as u8);
-                    out.finders(&list.finders);
+                    out.u8(0).u32(list.width).u32(list.height).table(&list.finders);
                 }
                 Err(number) => {
-                    out.u8(number).u32(0).u32(0).u8(0);
+                    out.u8(number).u32(0).u32(0).table(&[]);
                 }
             };
         }
@@ -121,8 +120,8 @@ pub fn finders_answer(function: u8, f: &mut Fields, out: &mut Bytes) -> Source {
             let (width, height) = (f.u32(), f.u32());
             let mut bytes = lent(f.u32());
             let count = f.u32();
-            let many = (8, count > 128);
-            let room = (5, (bytes.len() as u64) < 6 + 16 * count as u64);
+            let many = (8, count > MAX_FINDERS);
+            let room = (5, (bytes.len() as u64) < list_length(2, count as u64));
             let number = refusal(&[zero_side(width, height), large_side(width, height), many, room]);
             if number == 0 {
                 let finders: Vec<Finder> = (0..count).map(|_| f.finder()).collect();
@@ -188,7 +187,7 @@ pub fn chain_answer(entry: Entry, f: &mut Fields, out: &mut Bytes) -> Source {
             coverage::note_grades(&done.finders, &done.detections);
             out.detections(&done.detections).grades(&done.detections)
         }
-        Entry::Preview => out.u16(done.finders.len() as u16).finders(&done.finders),
+        Entry::Preview => out.table(&done.finders),
     };
     done.slices.iter().for_each(|s| {
         out.slice(s);

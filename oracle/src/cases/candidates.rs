@@ -1,10 +1,13 @@
 //! Ranking, and detections of lent finders and of pictures.
 
+use super::crowds::around_a_plate;
 use super::finders::{any_finder, search_picture};
 use super::scenes::clear_plate;
-use super::{Reach, bit_picture, false_plate};
+use super::unanswered::MOST_LENT;
+use super::{Reach, about_form_one, about_limit, bit_picture, crowd, false_plate};
 use crate::record::Record;
 use crate::rng::Rng;
+use crate::rules::{FORM_ONE_MOST, MAX_FINDERS};
 use lcr_decode::detect::{Finder, find_finders};
 use lcr_decode::image::{binarize, bits_of};
 
@@ -12,10 +15,19 @@ pub fn case(function: u8, i: u64, rng: &mut Rng, reach: Reach) -> Record {
     if function == 80 {
         return lent_case(i, rng, reach);
     }
+    let full = reach == Reach::Full;
     let ((width, height), bits) = match i % 12 {
+        5 if i % 24 == 5 && full || i % 96 == 5 => {
+            let count = about_limit(i / if full { 24 } else { 96 });
+            let gray = match rng.one_in(2) {
+                true => around_a_plate(rng, count, 1),
+                false => crowd(rng, count, 1, if full { 500_000 } else { 40_000 }),
+            };
+            ((gray.width, gray.height), gray.bits(128))
+        }
         0 | 3 | 6 | 9 => search_picture(i / 3, rng, reach),
         1 => {
-            let gray = false_plate(rng, 1, reach == Reach::Full);
+            let gray = false_plate(rng, 1, full);
             ((gray.width, gray.height), gray.bits(128))
         }
         _ => plate_bits(i, rng, reach),
@@ -60,10 +72,12 @@ fn lent_case(i: u64, rng: &mut Rng, reach: Reach) -> Record {
             let at = rng.below(list.len() as u64 + 1) as usize;
             list.insert(at, any_finder(rng));
         }
-        3 if rng.one_in(4) => {
-            let long = rng.whole(100, 300) as usize;
-            let length = rng.pick(&[127, 128, 129, long]);
-            list.resize_with(length, || any_finder(rng));
+        3 if rng.one_in(if reach == Reach::Full { 2 } else { 4 }) => {
+            let (turn, any) = (rng.next(), rng.whole(100, MOST_LENT));
+            let full = rng.pick(&[MAX_FINDERS - 1, MAX_FINDERS, MAX_FINDERS + 1]);
+            let (one, most) = (about_form_one(turn), about_limit(turn));
+            let length = rng.pick(&[full, full, most, any, one, FORM_ONE_MOST]);
+            list.resize_with(length as usize, || any_finder(rng));
         }
         4 if !list.is_empty() => {
             let at = rng.below(list.len() as u64) as usize;

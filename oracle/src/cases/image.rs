@@ -1,11 +1,14 @@
 //! Gray conversion, black and white conversion, denoising, and the whole chain.
 
 use super::scenes::{clear_plate, longest};
-use super::{Reach, SIDES, about, false_plate, full_table, resized, scene, walls};
+use super::{
+    Reach, SIDES, a_limit, about, about_form_one, about_limit, crowd, false_plate, full_table, resized,
+    scene, walls,
+};
 use crate::picture::{Gray, Picture, finder_grid};
 use crate::record::{LONGEST, Record, lent};
 use crate::rng::Rng;
-use crate::rules::{bit_bytes, blocks, pixels};
+use crate::rules::{FORM_ONE_MOST, MAX_FINDERS, bit_bytes, blocks, pixels};
 
 pub fn case(function: u8, i: u64, rng: &mut Rng, reach: Reach) -> Record {
     match function {
@@ -228,20 +231,22 @@ pub fn few_finders(rng: &mut Rng) -> Gray {
 }
 
 pub fn chain_case(i: u64, rng: &mut Rng, limit: usize, most: usize) -> ChainCase {
-    let grid = i % 128 == 2;
+    // Fewer and smaller in the stored sample, which has the small limits.
+    let (every, pixels) = if limit < 2_000 { (128, 40_000) } else { (16, 240_000) };
+    let (grid, crowded) = (i % 128 == 2, i % every == 12);
     let gray = match i % 4 {
-        _ if grid => finder_grid([129, 128, 127, 130][(i / 128 % 4) as usize], 12, 2, rng.whole(3, 5)),
+        _ if grid => finder_grid(about_form_one(i / 128), 12, 2, rng.whole(3, 5)),
+        _ if crowded => crowd(rng, about_limit(i / every), 2, pixels),
         _ if i % 64 == 10 => few_finders(rng),
         _ if i % 256 == 4 => longest(rng),
-        _ if i % 256 == 66 => full_table(rng, 2),
+        _ if i % 128 == 66 => full_table(rng, a_limit(i / 128), 2, pixels),
         _ if i % 32 == 6 => walls(rng, 2, limit > 2_000),
-        // Fewer in the stored sample, which has the small limits.
         _ if i % 32 == 22 || i % 16 == 14 && limit > 2_000 => false_plate(rng, 2, limit > 2_000),
         1 | 3 if limit < 2_000 => clear_plate(rng, 1, 2.4),
         1 | 3 => clear_plate(rng, limit as u32 / 9_000 + 1, 3.5),
         _ => scene(rng, limit),
     };
-    let spoilt = i % 6 == 0 && !grid;
+    let spoilt = i % 6 == 0 && !grid && !crowded;
     called(i, rng, &gray, most, spoilt)
 }
 
@@ -268,8 +273,10 @@ pub fn exposed(i: u64, rng: &mut Rng, limit: usize) -> Gray {
         0 => Gray::random(rng, 1, 1),
         1 => Gray::filled(rng.whole(1, 99), rng.whole(1, 99), rng.byte()),
         2..=5 => return uneven(rng),
-        6 if i % 32 == 6 => finder_grid([129, 128, 127, 130][(i / 32 % 4) as usize], 12, 2, 2),
-        6 => full_table(rng, 2),
+        6 if i % 256 == 6 => crowd(rng, about_limit(i / 256), 2, 40_000),
+        6 if i % 256 == 22 => full_table(rng, MAX_FINDERS, 2, 40_000),
+        6 if i % 32 == 6 => finder_grid(about_form_one(i / 32), 12, 2, 2),
+        6 => full_table(rng, FORM_ONE_MOST, 2, 40_000),
         7 => few_finders(rng),
         8 => longest(rng),
         9..=12 => clear_plate(rng, limit as u32 / 9_000 + 1, 3.5),

@@ -4,6 +4,7 @@
 mod alignment;
 mod candidates;
 mod core;
+mod crowds;
 mod ends;
 mod finders;
 mod geometry;
@@ -17,6 +18,7 @@ mod walls;
 use crate::record::Record;
 use crate::rng::Rng;
 
+pub use crowds::{a_limit, about_form_one, about_limit, crowd};
 pub use image::{ChainCase, chain_case, exposed, exposure_case};
 pub use preview::frame_case;
 pub use scenes::scene;

@@ -1,9 +1,10 @@
 //! The preview (document 02, N2): frames at its limit and beside it with every other fault, lengths at their
 //! boundaries, and pictures, small ones for records and whole frames for the C entry.
 
+use super::crowds::crowd_within;
 use super::image::{ChainCase, FORMATS, called, coloured, few_finders, lendable, needs, recorded, uneven};
 use super::scenes::{self, clear_plate};
-use super::{Reach, false_plate, full_table, scene, walls};
+use super::{Reach, a_limit, about_form_one, about_limit, crowd, false_plate, full_table, scene, walls};
 use crate::picture::{Gray, finder_grid, ringed};
 use crate::record::{LONGEST, Record};
 use crate::rng::Rng;
@@ -63,8 +64,11 @@ const LENGTHS: u64 = 38 * 3;
 /// The largest frames whose pixels a record holds, one side at the limit, and those with that side one over it.
 const LARGEST: [(u32, u32); 4] = [(640, 409), (546, 480), (641, 408), (544, 481)];
 
-/// Cases before those by chance: the three above, and grids of 127 to 130 finders.
-pub const BOUNDARIES: u64 = FAULTY + LENGTHS + 4 + 4 * LARGEST.len() as u64;
+/// Pictures with as many finders as the table holds or as form 1 holds, or about as many.
+const FULL: u64 = 12;
+
+/// Cases before those by chance: the four above.
+pub const BOUNDARIES: u64 = FAULTY + LENGTHS + FULL + 4 * LARGEST.len() as u64;
 
 /// The stored sample has a third of the faults and lengths and none of the largest frames.
 pub fn preview_record(i: u64, rng: &mut Rng, reach: Reach) -> Record {
@@ -74,7 +78,11 @@ pub fn preview_record(i: u64, rng: &mut Rng, reach: Reach) -> Record {
     let case = match i {
         _ if i < faults => faulty(step * i, rng, if sample { 8_000 } else { LONGEST - 45 }),
         _ if i < lengths => about_lengths(step * (i - faults), rng),
-        _ if i < lengths + 4 => exact(finder_grid(127 + (i - lengths) as u32, 12, 2, 2)),
+        _ if i < lengths + FULL / 3 => exact(finder_grid(about_form_one(i - lengths), 12, 2, 2)),
+        _ if i < lengths + FULL => {
+            let count = about_limit(i - lengths - FULL / 3);
+            exact(crowd(rng, count, 2, if sample { 40_000 } else { 240_000 }))
+        }
         _ if !sample && i < BOUNDARIES => {
             let (width, height) = LARGEST[(i % 4) as usize];
             exact(filled(i / 4, rng, width, height))
@@ -138,7 +146,7 @@ fn exact(gray: Gray) -> ChainCase {
     ChainCase { sides, stride: gray.width, format: 1, picture: gray.pixels, room }
 }
 
-/// A small picture, mostly with finders that outlast denoising; a few fill the table.
+/// A small picture, mostly with finders that outlast denoising; a few fill the table and are larger.
 fn small(i: u64, rng: &mut Rng, reach: Reach) -> Gray {
     let limit = match reach {
         Reach::Sample => rng.pick(&[64, 400, 900, 1_600]),
@@ -146,8 +154,9 @@ fn small(i: u64, rng: &mut Rng, reach: Reach) -> Gray {
         Reach::Full => rng.pick(&[400, 900, 1_600, 2_304, 4_000]),
     };
     match i % 16 {
-        0 if i % 256 == 0 => finder_grid(127 + (i / 256 % 4) as u32, 12, 2, rng.whole(2, 5)),
-        0 if i % 256 == 128 => full_table(rng, 2),
+        0 if i % 512 == 0 => finder_grid(about_form_one(i / 512), 12, 2, rng.whole(2, 5)),
+        0 if i % 512 == 256 => crowd(rng, about_limit(i / 512), 2, 60_000),
+        0 if i % 256 == 128 => full_table(rng, a_limit(i / 256), 2, 60_000),
         0 if i % 64 == 16 => few_finders(rng),
         0 => {
             let (width, height) = (rng.whole(1, 40), rng.whole(1, 40));
@@ -188,6 +197,7 @@ fn frame(i: u64, rng: &mut Rng) -> Gray {
         1 => rng.pick(&[(641, 480), (640, 481), (641, 481), (480, 640), (481, 481), (640, 640)]),
         2 => (640, rng.whole(1, 480)),
         3 => (rng.whole(1, 640), 480),
+        4 => return crowd_within(rng, about_limit(i / 16), 2, 640, 480),
         _ => return small(rng.below(1024), rng, Reach::Full),
     };
     filled(i / 16 + i % 16, rng, width, height)
@@ -202,7 +212,8 @@ fn filled(k: u64, rng: &mut Rng, width: u32, height: u32) -> Gray {
             return Gray::squares(rng, width, height, side, &[0, 10, 60, 128, 250]);
         }
         2 => return scenes::finders(rng, width, height),
-        3 => vec![finder_grid(rng.whole(127, 130), 12, rng.whole(2, 3), rng.whole(3, 5))],
+        3 if k % 32 == 3 => vec![finder_grid(about_form_one(k / 32), 12, rng.whole(2, 3), rng.whole(3, 5))],
+        3 => vec![crowd_within(rng, about_limit(k / 8), 2, 640, 480)],
         4 => vec![scene(rng, 640 * 480)],
         5 => (0..4).map(|_| walls(rng, 2, true)).collect(),
         _ => (0..rng.whole(2, 20)).map(|_| clear_plate(rng, 4, 3.5)).collect(),

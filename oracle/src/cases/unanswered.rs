@@ -3,7 +3,7 @@
 use crate::record::{FUNCTIONS, LONGEST, Record, program_of};
 
 /// The most finders of record 80.
-const MOST_LENT: u32 = 512;
+pub const MOST_LENT: u32 = 1200;
 
 /// A function's payload: how many bytes come before its lists and its rest, and where in them the lengths of lent
 /// slices stand.

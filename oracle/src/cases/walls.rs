@@ -1,9 +1,10 @@
 //! Stretched finders and tyre walls (document 02, N7): an outer dark run of a confirmation is about the limit or far
 //! over it, and the others are long enough for the five to pass as they are counted.
 
+use super::crowds::crowd;
 use super::finders::marker;
 use super::scenes::clear_plate;
-use crate::picture::{Gray, finder_grid, ringed};
+use crate::picture::{Gray, ringed};
 use crate::rng::Rng;
 use crate::search::limit_of;
 use core::ops::RangeInclusive;
@@ -223,20 +224,25 @@ fn beside_a_plate(rng: &mut Rng, size: Size) -> Gray {
     if rng.one_in(2) { out.transposed() } else { out }
 }
 
-/// About as many finders as the table holds, beside walls of which some count and some are cut.
-pub fn full_table(rng: &mut Rng, least: u32) -> Gray {
+/// About so many finders, in at most so many pixels, beside walls of which some count and some are cut.
+pub fn full_table(rng: &mut Rng, full: u32, least: u32, most: usize) -> Gray {
     let size = Size { least, modules: (least as f64, least as f64), large: false };
-    let grid = finder_grid(rng.whole(126, 130), 12, least, rng.whole(least, 3));
-    let mut out = grid.framed([0, 8 * least], [0, 0]);
+    let count = rng.whole(full - 2, full + 2);
+    let table = crowd(rng, count, least, most);
+    let mut out = table.framed([0, 9 * least], [0, 0]);
     let mut y = 0;
     for _ in 0..rng.whole(1, 3) {
         let wall = tall(rng, size, false).gray;
         if wall.width <= 7 * least && y + wall.height <= out.height {
-            out.paste(&wall, grid.width, y);
+            out.paste(&wall, table.width + least, y);
             y += wall.height + 2;
         }
     }
-    if rng.one_in(2) { out.transposed() } else { out }
+    match rng.one_in(2) {
+        _ if out.pixels.len() > most => full_table(rng, full, least, most),
+        true => out.transposed(),
+        false => out,
+    }
 }
 
 /// The smallest pictures in which a hit is cut, 7 × 34 and 34 × 7, in the first confirmation and in the second: a run of

@@ -2,8 +2,8 @@
 use Rattle.std.proofs.Common.{◌≡◌, length, get_or}
 use Rattle.lists.specs.Lists.{tabulate, flat_map}
 use Rattle.little_endian.specs.Bytes.{put}
-use Rattle.record.specs.Record.{byte_digits}
+use Rattle.record.specs.Record.{byte_digits, line_room}
 use Rattle.record.proofs.spell.Given as goal
 
 abbrev pub invariant-loop-i : goal.invariant-loop-i
-invariant-loop-i l = (length l.text ≡ 4609) × (l.text ≡ put (flat_map byte_digits (tabulate l.i (λ k. get_or l.out k 0))) 0 l.initial.text)
+invariant-loop-i l = (length l.text ≡ line_room) × (l.text ≡ put (flat_map byte_digits (tabulate l.i (λ k. get_or l.out k 0))) 0 l.initial.text)

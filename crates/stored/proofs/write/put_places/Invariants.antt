@@ -7,4 +7,4 @@ use Rattle.stored.specs.Stored.{place_bytes}
 use Rattle.stored.proofs.write.put_places.Given as goal
 
 abbrev pub invariant-loop-k : goal.invariant-loop-k
-invariant-loop-k l = l.out ≡ put (flat_map place_bytes (take l.k l.f-items)) 6 l.initial.out
+invariant-loop-k l = l.out ≡ put (flat_map place_bytes (take l.k l.f-items)) 7 l.initial.out

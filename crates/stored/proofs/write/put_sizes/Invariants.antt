@@ -8,4 +8,4 @@ use Rattle.stored.specs.Stored.{size_bytes}
 use Rattle.stored.proofs.write.put_sizes.Given as goal
 
 abbrev pub invariant-loop-k : goal.invariant-loop-k
-invariant-loop-k l = l.out ≡ put (flat_map size_bytes (take l.k l.f-items)) (6 + 8 * l.fn.t.count) l.initial.out
+invariant-loop-k l = l.out ≡ put (flat_map size_bytes (take l.k l.f-items)) (7 + 8 * l.fn.t.count) l.initial.out
