@@ -1,5 +1,6 @@
 pub mod Windows
 pub mod Places
+pub mod Within
 pub mod Folding
 pub mod Tables
 pub mod Axes

@@ -11,11 +11,16 @@ use geometry::Finder;
 use lcr_core::Refusal;
 use transform::Point;
 
-// Whether the finder's own module bounds both coordinate distances. The second is looked at only where the first is bounded: of many finders most are far away.
+// Whether the finder's own module bounds both coordinate distances. A distance is bounded by m where it lies between -m and m; of many finders most are far away,
+// so that the second distance is seldom looked at.
+#[tactic(auto, using(crate::proofs::Within::within_both))]
 fn is_within(f: Finder, p: Point) -> bool
     ensures { result ≡ within p.x p.y f }
 {
-    Float::abs(f.x - p.x) <= f.module && Float::abs(f.y - p.y) <= f.module
+    let m = f.module;
+    let dx = f.x - p.x;
+    let dy = f.y - p.y;
+    dx <= m && -m <= dx && dy <= m && -m <= dy
 }
 
 // The running means with one hit more.

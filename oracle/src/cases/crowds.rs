@@ -46,17 +46,6 @@ pub fn crowd(rng: &mut Rng, count: u32, least: u32, most: usize) -> Gray {
     }
 }
 
-/// A crowd within the sides given.
-pub fn crowd_within(rng: &mut Rng, count: u32, least: u32, width: u32, height: u32) -> Gray {
-    let gray = crowd(rng, count, least, (width * height) as usize);
-    let fits = |g: &Gray| g.width <= width && g.height <= height;
-    match gray.transposed() {
-        _ if fits(&gray) => gray,
-        other if fits(&other) => other,
-        _ => crowd_within(rng, count, least, width, height),
-    }
-}
-
 /// Drawn finders in rows.
 fn grid(rng: &mut Rng, count: u32, least: u32) -> Gray {
     let columns = rng.whole(12, 50);

@@ -1,7 +1,6 @@
 //! The preview (document 02, N2): frames at its limit and beside it with every other fault, lengths at their
 //! boundaries, and pictures, small ones for records and whole frames for the C entry.
 
-use super::crowds::crowd_within;
 use super::image::{ChainCase, FORMATS, called, coloured, few_finders, lendable, needs, recorded, uneven};
 use super::scenes::{self, clear_plate};
 use super::{Reach, a_limit, about_form_one, about_limit, crowd, false_plate, full_table, scene, walls};
@@ -81,7 +80,8 @@ pub fn preview_record(i: u64, rng: &mut Rng, reach: Reach) -> Record {
         _ if i < lengths + FULL / 3 => exact(finder_grid(about_form_one(i - lengths), 12, 2, 2)),
         _ if i < lengths + FULL => {
             let count = about_limit(i - lengths - FULL / 3);
-            exact(crowd(rng, count, 2, if sample { 40_000 } else { 240_000 }))
+            let most = if sample { 40_000 } else { 240_000 };
+            exact(framed(rng, |rng| crowd(rng, count, 2, most)))
         }
         _ if !sample && i < BOUNDARIES => {
             let (width, height) = LARGEST[(i % 4) as usize];
@@ -146,6 +146,16 @@ fn exact(gray: Gray) -> ChainCase {
     ChainCase { sides, stride: gray.width, format: 1, picture: gray.pixels, room }
 }
 
+/// A picture that a frame of 640 × 480 holds.
+fn framed(rng: &mut Rng, picture: impl Fn(&mut Rng) -> Gray) -> Gray {
+    loop {
+        let gray = picture(rng);
+        if gray.width <= 640 && gray.height <= 480 {
+            return gray;
+        }
+    }
+}
+
 /// A small picture, mostly with finders that outlast denoising; a few fill the table and are larger.
 fn small(i: u64, rng: &mut Rng, reach: Reach) -> Gray {
     let limit = match reach {
@@ -155,8 +165,8 @@ fn small(i: u64, rng: &mut Rng, reach: Reach) -> Gray {
     };
     match i % 16 {
         0 if i % 512 == 0 => finder_grid(about_form_one(i / 512), 12, 2, rng.whole(2, 5)),
-        0 if i % 512 == 256 => crowd(rng, about_limit(i / 512), 2, 60_000),
-        0 if i % 256 == 128 => full_table(rng, a_limit(i / 256), 2, 60_000),
+        0 if i % 512 == 256 => framed(rng, |rng| crowd(rng, about_limit(i / 512), 2, 60_000)),
+        0 if i % 256 == 128 => framed(rng, |rng| full_table(rng, a_limit(i / 256), 2, 60_000)),
         0 if i % 64 == 16 => few_finders(rng),
         0 => {
             let (width, height) = (rng.whole(1, 40), rng.whole(1, 40));
@@ -197,7 +207,7 @@ fn frame(i: u64, rng: &mut Rng) -> Gray {
         1 => rng.pick(&[(641, 480), (640, 481), (641, 481), (480, 640), (481, 481), (640, 640)]),
         2 => (640, rng.whole(1, 480)),
         3 => (rng.whole(1, 640), 480),
-        4 => return crowd_within(rng, about_limit(i / 16), 2, 640, 480),
+        4 => return framed(rng, |rng| crowd(rng, about_limit(i / 16), 2, 640 * 480)),
         _ => return small(rng.below(1024), rng, Reach::Full),
     };
     filled(i / 16 + i % 16, rng, width, height)
@@ -213,7 +223,7 @@ fn filled(k: u64, rng: &mut Rng, width: u32, height: u32) -> Gray {
         }
         2 => return scenes::finders(rng, width, height),
         3 if k % 32 == 3 => vec![finder_grid(about_form_one(k / 32), 12, rng.whole(2, 3), rng.whole(3, 5))],
-        3 => vec![crowd_within(rng, about_limit(k / 8), 2, 640, 480)],
+        3 => vec![framed(rng, |rng| crowd(rng, about_limit(k / 8), 2, 640 * 480))],
         4 => vec![scene(rng, 640 * 480)],
         5 => (0..4).map(|_| walls(rng, 2, true)).collect(),
         _ => (0..rng.whole(2, 20)).map(|_| clear_plate(rng, 4, 3.5)).collect(),
