@@ -3,6 +3,9 @@
 //! of this thread. Slices are lent and not cleared between calls; the Rust allocates its
 //! results at each call, as its functions do. See bench/run.
 
+#[path = "../../oracle/src/limits.rs"]
+#[allow(dead_code)]
+mod limits;
 #[path = "../../oracle/src/picture.rs"]
 #[allow(dead_code)]
 mod picture;

@@ -2,6 +2,8 @@
 //! include/sirvoltha_stages.h (the stages alone, in libentries.a) declare them for C. Numbers go as themselves, a byte
 //! slice as its pointer and its length.
 
+use crate::limits::{MAX_FINDERS, list_length};
+
 unsafe extern "C" {
     fn plate_gray(
         picture: *const u8,
@@ -112,13 +114,6 @@ unsafe extern "C" {
     ) -> u8;
 }
 
-/// The most finders of a picture, and the bytes of a stored list of n finders (`PLATE_MAX_FINDERS`, `PLATE_LIST_BYTES`).
-const MAX_FINDERS: usize = 1000;
-
-const fn list_bytes(n: usize) -> usize {
-    7 + 16 * n
-}
-
 /// Slices lent to the stages.
 pub struct Lent {
     pub gray: Vec<u8>,
@@ -148,7 +143,7 @@ impl Lent {
             greatest: blocks.clone(),
             edges: blocks.clone(),
             nears: blocks,
-            list: vec![0; list_bytes(MAX_FINDERS)],
+            list: vec![0; list_length(2, MAX_FINDERS as u64) as usize],
             detections: vec![0; 367],
         }
     }

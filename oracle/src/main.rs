@@ -7,6 +7,7 @@ mod coverage;
 mod differences;
 mod exposures;
 mod lenses;
+mod limits;
 mod listing;
 mod picture;
 mod plate;

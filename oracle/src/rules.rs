@@ -1,16 +1,9 @@
 //! What documents 01 and 02 add to the published source, in the comparison's own lines: refusals,
 //! how a run ended, block values, the stored list, a detection's score and mean module, and the firmware's bytes.
 
+pub use crate::limits::{FORM_ONE_MOST, MAX_FINDERS, list_length};
 use crate::record::{Bytes, Fields};
 use lcr_decode::detect::{Detection, Finder, module_of, score_of};
-
-// ---- limits
-
-/// The most finders of a search, of a stored list and of the preview's answer (document 02, N9).
-pub const MAX_FINDERS: u32 = 1000;
-
-/// The most of a stored list of form 1.
-pub const FORM_ONE_MOST: u32 = 128;
 
 // ---- refusals
 
@@ -169,11 +162,6 @@ pub struct List {
     pub width: u32,
     pub height: u32,
     pub finders: Vec<Finder>,
-}
-
-/// The bytes of a list in a form: 6 and 16 for each finder, in form 2 one more for its count of two bytes.
-pub fn list_length(form: u8, count: u64) -> u64 {
-    if form == 1 { 6 + 16 * count } else { 7 + 16 * count }
 }
 
 /// 8 for another form byte and for a list shorter than its form's without finders, then 1, 2, then 8 for a count over
