@@ -12,6 +12,7 @@ use Rattle.finders.specs.Rank.{stays, insert, ranked}
 use Rattle.finders.specs.Answer.{is_over, find_refusal, finders_after, finders_of, answer_of}
 use Rattle.finders.proofs.Outcomes.{answer_number}
 use Rattle.finders.proofs.Tables.{over_stays}
+use Rattle.finders.proofs.Ranks.{insert-length}
 
 -- ---- 6: a hit is one too many if and only if it falls within no held finder while the table is full, for a table of any number of places
 abbrev None : Sighting → List Finder → Type 0
@@ -132,15 +133,6 @@ those_few (f ∷ fs) = go (stays f) (those_few fs)
     go : (t : Bool) → length (those stays fs) ≤ length fs → length (cond t (f ∷ those stays fs) (those stays fs)) ≤ suc (length fs)
     go true l = omega (arith, l)
     go false l = omega (arith, l)
-
-insert-length : (gs : List Finder) (f : Finder) → length (insert gs f) ≡ suc (length gs)
-unfolding insert
-insert-length [] f = refl
-insert-length (g ∷ gs) f = go (ltb g.confirmations f.confirmations) (insert-length gs f)
-  where
-    go : (t : Bool) → length (insert gs f) ≡ suc (length gs) → length (cond t (f ∷ g ∷ gs) (g ∷ insert gs f)) ≡ suc (suc (length gs))
-    go true e = refl
-    go false e = ap suc e
 
 folded-length : (gs fs : List Finder) → length (folded insert gs fs) ≡ length gs + length fs
 unfolding folded

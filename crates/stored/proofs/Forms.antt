@@ -2,8 +2,7 @@
 use Rattle.std.proofs.Common.{◌≡◌, ℕ, ◌≤◌, ◌<◌, ◌^◌, eqb, ltb, ◌||◌, refl, ◌⊎◌, List, length, get_or, inl, inr, arith}
 use Rattle.lcr_core.proofs.Checks.{either}
 use Rattle.finders.specs.Search.{max_finders}
-use Rattle.stored.specs.Stored.{Form, form_one, form_two, form_in, head_size, bad_head}
-use Rattle.stored.specs.Inner.{no_form}
+use Rattle.stored.specs.Stored.{Form, form_one, form_two, no_form, form_in, head_size, bad_head}
 
 -- one of the two
 abbrev pub Known : Form → Type 0

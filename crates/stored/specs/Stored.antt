@@ -23,9 +23,11 @@ pub record Form : Type 0 where
   pub wide : ℕ
   pub most : ℕ
 
+-- form 1, which is only read
 abbrev pub form_one : Form
 form_one = record { byte = 1; wide = 1; most = 128 }
 
+-- form 2, which the writer makes
 abbrev pub form_two : Form
 form_two = record { byte = 2; wide = 2; most = max_finders }
 
@@ -54,7 +56,11 @@ abbrev pub size_in : Form → ℕ → ℕ
 size_in f count = head_size f + 16 * count
 
 -- ---- the reader
--- the form that the first byte names; form 1 too where it names none, which `bad_head` refuses
+-- whether the first byte names no form
+abbrev pub no_form : List ℕ → Bool
+no_form bytes = not (eqb (get_or bytes 0 0) form_one.byte || eqb (get_or bytes 0 0) form_two.byte)
+
+-- the form that it names; form 1 too where it names none, which `bad_head` refuses
 abbrev pub form_in : List ℕ → Form
 form_in bytes = cond (eqb (get_or bytes 0 0) form_two.byte) form_two form_one
 
@@ -82,8 +88,7 @@ finder_at f bytes count k =
 
 -- 8: another form, or fewer bytes than its head has: 6 of form 1, 7 of form 2
 unfoldable pub bad_head : List ℕ → Bool
-bad_head bytes =
-    not (eqb (get_or bytes 0 0) form_one.byte || eqb (get_or bytes 0 0) form_two.byte) || ltb (length bytes) (head_size (form_in bytes))
+bad_head bytes = no_form bytes || ltb (length bytes) (head_size (form_in bytes))
 
 -- 8: the count is over the form's most
 unfoldable pub many_finders : Form → ℕ → Bool

@@ -3,8 +3,8 @@ ghost use Rattle.std.specs.Prelude.{◌≡◌, ◌≤◌, length, IfOk};
 ghost use Rattle.std.specs.Option.{is_none, IfSome};
 ghost use Rattle.lcr_core.specs.Outcome.{number_of, first_of};
 ghost use Rattle.finders.specs.Search.{max_finders};
-ghost use Rattle.stored.specs.Stored.{form_two, form_in, count_in, bad_length, many_finders, short_output, read_refusal, write_checks};
-ghost use Rattle.stored.specs.Inner.{no_form, head_in};
+ghost use Rattle.stored.specs.Stored.{form_two, no_form, form_in, count_in, bad_length, many_finders, short_output, read_refusal, write_checks};
+ghost use Rattle.stored.specs.Inner.{head_in};
 
 use lcr_core::{Refusal, check_sides};
 use little_endian::get;
