@@ -1,4 +1,5 @@
 /* The quay plate detector for C: the whole chain in one call, and the preview of a frame in another.
+   plate.h has both over one block of memory, and reads what they write into structs.
 
    `tools/staticlib chain` builds target/staticlib/libchain.a (x86-64, needs only memcpy and memset). The two functions allocate nothing, keep
    nothing between calls, and may run in several threads on different buffers. They take any numbers and lengths: what is unfit is refused.

@@ -1,9 +1,9 @@
 /* The single stages of the quay plate detector for C, for measurements and tests; the firmware has plate_chain and plate_preview
    (sirvoltha.h).
 
-   `tools/staticlib entries` builds target/staticlib/libentries.a. All that sirvoltha.h says of plate_chain holds here too: its refusals, pixel
+   `tools/staticlib bench_entries` builds target/staticlib/libbench_entries.a. All that sirvoltha.h says of plate_chain holds here too: its refusals, pixel
    formats, lengths and layouts, what the caller sees to, and the floating-point environment. Each function returns PLATE_DONE, or the
-   first refusal in the order given with it, and no byte has been written then. Contracts: crates/entries/src/lib.rt. */
+   first refusal in the order given with it, and no byte has been written then. Contracts: crates/bench_entries/src/lib.rt. */
 #ifndef SIRVOLTHA_STAGES_H
 #define SIRVOLTHA_STAGES_H
 

@@ -1,5 +1,5 @@
 //! The C entries of the static libraries, as include/sirvoltha.h (`plate_chain` and `plate_preview`, in libchain.a) and
-//! include/sirvoltha_stages.h (the stages alone, in libentries.a) declare them for C. Numbers go as themselves, a byte
+//! include/sirvoltha_stages.h (the stages alone, in libbench_entries.a) declare them for C. Numbers go as themselves, a byte
 //! slice as its pointer and its length.
 
 use crate::limits::{MAX_FINDERS, list_length};

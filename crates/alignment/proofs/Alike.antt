@@ -5,10 +5,10 @@ use mathlib.Core.Path.{◌≡◌, ap, fun_ext}
 use mathlib.Core.List.{List}
 use lib.Ieee.{Float}
 use Rattle.lists.specs.Lists.{range, folded, sum_to}
-use Rattle.float.specs.Steps.{plus32}
-use Rattle.float.specs.Constants.{half, f1/8, f1/32}
+use Rattle.float.specs.Steps.{◌⊕◌}
+use Rattle.float.specs.Constants.{f1/2, f1/8, f1/32}
 use Rattle.transform.specs.declared.Transform.{Transform}
-use Rattle.alignment.specs.Template.{module_dark, agree, score_of, site_at, better_of, along, no_site, sweep_best, best_of}
+use Rattle.alignment.specs.Template.{module_dark, agree, template_score, site_at, better_of, along, no_site, sweep_best, best_of}
 use Rattle.alignment.specs.declared.template.Site.{Site}
 
 module _ (a b : List ℕ) (w h : ℕ) (t s : Transform) (dark : (x y : Float) → module_dark a w h t x y ≡ module_dark b w h s x y) where
@@ -16,13 +16,13 @@ module _ (a b : List ℕ) (w h : ℕ) (t s : Transform) (dark : (x y : Float) �
   unfolding agree
   agree_alike x y k = rw (dark _ _)
 
-  score_alike : (x y : Float) → score_of a w h t x y ≡ score_of b w h s x y
-  unfolding score_of
+  score_alike : (x y : Float) → template_score a w h t x y ≡ template_score b w h s x y
+  unfolding template_score
   score_alike x y = ap (sum_to 25) (fun_ext (λ k. agree_alike x y k))
 
   site_alike : (c x y : Float) → site_at a w h t c x y ≡ site_at b w h s c x y
   unfolding site_at
-  site_alike c x y = rw (score_alike (plus32 c x) (plus32 c y))
+  site_alike c x y = rw (score_alike (c ⊕ x) (c ⊕ y))
 
   sweep_alike : (c : Float) (m : ℕ) (step : Float) (best : Site) → sweep_best a w h t c m step best ≡ sweep_best b w h s c m step best
   unfolding sweep_best
@@ -33,6 +33,6 @@ module _ (a b : List ℕ) (w h : ℕ) (t s : Transform) (dark : (x y : Float) �
   pub best_alike : (c : Float) → best_of a w h t c ≡ best_of b w h s c
   unfolding best_of
   best_alike c =
-      let p = sweep_best b w h s c 13 half no_site in
+      let p = sweep_best b w h s c 13 f1/2 no_site in
       let q = sweep_best b w h s c 9 f1/8 p in
-      rw (sweep_alike c 13 half no_site, sweep_alike c 9 f1/8 p, sweep_alike c 9 f1/32 q)
+      rw (sweep_alike c 13 f1/2 no_site, sweep_alike c 9 f1/8 p, sweep_alike c 9 f1/32 q)

@@ -7,8 +7,8 @@ use lib.ListN.{length}
 use lib.Ieee.{Float}
 use Rattle.lists.specs.Lists.{tabulate}
 use Rattle.lists.proofs.Tabulate.{length-tabulate, get_d_tabulate}
-use Rattle.float.specs.Steps.{minus32, whole32}
-use Rattle.float.specs.Constants.{f0, half, f6_5}
+use Rattle.float.specs.Steps.{◌⊖◌, whole32}
+use Rattle.float.specs.Constants.{f0, f1/2, f6_5}
 use Rattle.binary.specs.Binary.{bit}
 use Rattle.transform.specs.declared.Transform.{Transform}
 use Rattle.alignment.specs.declared.template.Site.{Site}
@@ -30,7 +30,7 @@ module _ (bits : List ℕ) (w h : ℕ) (t : Transform) where
       rw (e, f)
 
   pub known_all : (side : ℕ) (best : Site) (colours : List ℕ) → 12 ≤ side → side ≤ 4096 → best.x ≡ f0 → best.y ≡ f0 → colours ≡ tabulate 441 (colour_at bits w h t (2 * side - 23))
-      → Known bits w h t (minus32 (whole32 side) f6_5) 13 half best colours
+      → Known bits w h t (whole32 side ⊖ f6_5) 13 f1/2 best colours
   unfolding Known
   known_all side best colours l g x y e = λ k a i j p q some.
       let z = k % 13 + 21 * (k / 13) + 2 * i + 42 * j in

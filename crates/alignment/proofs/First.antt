@@ -18,7 +18,7 @@ pub record FirstBest (sites : List Site) (r : Site) : Type 0 where
   pub unbeaten : Each (λ (s : Site). beats s r ≡ false) later
 
 abbrev pub Numbered : List Site → Type 0
-Numbered = Each (λ (s : Site). is_number s.dist ≡ true)
+Numbered = Each (λ (s : Site). is_number s.offset2 ≡ true)
 
 -- the last of some sites beats them all, if it beats their best
 beats_each : (s r : Site) → beats s r ≡ true → (xs : List Site) → Each (λ (x : Site). beats r x ≡ true) xs → Each (λ (x : Site). beats s x ≡ true) xs
@@ -37,7 +37,7 @@ first_more sites r s n f = go (beats s r) refl
     go true h =
         let m = subst Numbered f.placed n in
         let p = each_append (λ (x : Site). beats s x ≡ true) f.earlier (r ∷ f.later) (beats_each s r h f.earlier f.beaten)
-        (h, beats_rest s r h f.later (each_right (λ (x : Site). is_number x.dist ≡ true) f.earlier (r ∷ f.later) m).1 f.unbeaten) in
+        (h, beats_rest s r h f.later (each_right (λ (x : Site). is_number x.offset2 ≡ true) f.earlier (r ∷ f.later) m).1 f.unbeaten) in
         record { earlier = sites; later = []; placed = refl; beaten = subst (Each (λ (x : Site). beats s x ≡ true)) (sym f.placed) p; unbeaten = tt }
     go false h =
         record {
@@ -55,7 +55,7 @@ first_all sites (s ∷ more) r n f =
     let a = append_assoc sites (s ∷ []) more in
     subst (λ (l : List Site). FirstBest l (folded better_of (better_of r s) more)) a
     (first_all (sites ++ (s ∷ [])) more (better_of r s) (subst Numbered (sym a) n)
-    (first_more sites r s (each_left (λ (x : Site). is_number x.dist ≡ true) sites (s ∷ more) n) f))
+    (first_more sites r s (each_left (λ (x : Site). is_number x.offset2 ≡ true) sites (s ∷ more) n) f))
 
 pub first-best : (r : Site) (sites : List Site) → Numbered (r ∷ sites) → FirstBest (r ∷ sites) (folded better_of r sites)
 first-best r sites n = first_all (r ∷ []) sites r n (record { earlier = []; later = []; placed = refl; beaten = tt; unbeaten = tt })

@@ -8,7 +8,7 @@ use lib.Ieee.{Float, nan, inf, fin, Format, binary32, prec, low, emax, up, down,
 use lib.Ieee.Fits.{round_is}
 use borrow.Author.Tests.{eq-eqb}
 use Rattle.float.specs.Floats.{is_number}
-use Rattle.float.specs.Steps.{plus32, times32}
+use Rattle.float.specs.Steps.{◌⊕◌, ◌⊗◌}
 
 abbrev pub Number : Float → Type 0
 Number nan = ⊥
@@ -100,5 +100,5 @@ number_is (inf s) n = rw (beq_self s)
 number_is (fin s m e) n = rw (eq-eqb (m * up e * down e) (m * up e * down e) refl, beq_self s)
 
 -- a sum of two squares
-pub squares_number : (x y : Float) → Number x → Number y → is_number (plus32 (times32 x x) (times32 y y)) ≡ true
-squares_number x y n m = number_is _ (clear_sum binary32 (times32 x x) (times32 y y) (square_clear binary32 x n) (square_clear binary32 y m))
+pub squares_number : (x y : Float) → Number x → Number y → is_number (x ⊗ x ⊕ y ⊗ y) ≡ true
+squares_number x y n m = number_is _ (clear_sum binary32 (x ⊗ x) (y ⊗ y) (square_clear binary32 x n) (square_clear binary32 y m))

@@ -28,11 +28,11 @@ of_above : (a b : ℕ) (t : Bool) → Above a b t → (ltb a b || (eqb b a && t)
 of_above a b t (more h) = rw (lt-ltb a b h)
 of_above a b t (level h e) = rw (le-ltb a b (omega arith), eq-eqb b a (sym h)) e
 
-beats_above : (s t u : Site) → Above t.score s.score (lt s.dist t.dist) → Above u.score t.score (lt t.dist u.dist) → Above u.score s.score (lt s.dist u.dist)
+beats_above : (s t u : Site) → Above t.score s.score (lt s.offset2 t.offset2) → Above u.score t.score (lt t.offset2 u.offset2) → Above u.score s.score (lt s.offset2 u.offset2)
 beats_above s t u (more h) (more g) = more (omega arith)
 beats_above s t u (more h) (level g e) = more (omega arith)
 beats_above s t u (level h e) (more g) = more (omega arith)
-beats_above s t u (level h e) (level g f) = level (g ∙ h) (lt_trans s.dist t.dist u.dist e f)
+beats_above s t u (level h e) (level g f) = level (g ∙ h) (lt_trans s.offset2 t.offset2 u.offset2 e f)
 
 pub beats-trans : (s t u : Site) → beats s t ≡ true → beats t u ≡ true → beats s u ≡ true
 unfolding beats
@@ -48,20 +48,20 @@ under_of a b t h = go (ltb a b) refl (eqb b a) refl h
     go false p false q e = (ltb-false a b p, λ z. absurd (eqb-false b a q z))
 
 -- where x does not beat b, what beats b beats x
-pub beats_over : (s b x : Site) → is_number x.dist ≡ true → beats s b ≡ true → beats x b ≡ false → beats s x ≡ true
+pub beats_over : (s b x : Site) → is_number x.offset2 ≡ true → beats s b ≡ true → beats x b ≡ false → beats s x ≡ true
 unfolding beats
 beats_over s b x n h g = of_above _ _ _ (go (above_of b.score s.score _ h) (under_of b.score x.score _ g) (ltb x.score b.score) refl)
   where
-    go : Above b.score s.score (lt s.dist b.dist) → (x.score ≤ b.score) × (x.score ≡ b.score → lt x.dist b.dist ≡ false) → (v : Bool) → ltb x.score b.score ≡ v
-        → Above x.score s.score (lt s.dist x.dist)
+    go : Above b.score s.score (lt s.offset2 b.offset2) → (x.score ≤ b.score) × (x.score ≡ b.score → lt x.offset2 b.offset2 ≡ false) → (v : Bool) → ltb x.score b.score ≡ v
+        → Above x.score s.score (lt s.offset2 x.offset2)
     go (more p) u v e = more (omega arith)
     go (level p q) u true e = more (omega (arith, ltb-true x.score b.score e))
     go (level p q) u false e =
         let z : x.score ≡ b.score = omega (arith, ltb-false x.score b.score e) in
-        level (z ∙ p) (nearer (lt s.dist x.dist) refl)
+        level (z ∙ p) (nearer (lt s.offset2 x.offset2) refl)
       where
-        nearer : (w : Bool) → lt s.dist x.dist ≡ w → w ≡ true
+        nearer : (w : Bool) → lt s.offset2 x.offset2 ≡ w → w ≡ true
         nearer true k = refl
         nearer false k =
             let z : x.score ≡ b.score = omega (arith, ltb-false x.score b.score e) in
-            absurd (true≢false (sym q ∙ not_lt-trans s.dist x.dist b.dist n k (u.1 z)))
+            absurd (true≢false (sym q ∙ not_lt-trans s.offset2 x.offset2 b.offset2 n k (u.1 z)))

@@ -9,10 +9,10 @@ use lib.Dec.{ltb}
 use lib.Ieee.{Float}
 use borrow.Author.Tests.{ltb-true, ltb-false, lt-ltb}
 use Rattle.lists.specs.Lists.{folded, range}
-use Rattle.float.specs.Constants.{f0, half, f1/8, f1/32}
+use Rattle.float.specs.Constants.{f0, f1/2, f1/8, f1/32}
 use Rattle.transform.specs.declared.Transform.{Transform}
 use Rattle.alignment.specs.declared.template.Site.{Site}
-use Rattle.alignment.specs.Template.{no_site, beats, better_of, site_of, visited, sweep_best, best_of}
+use Rattle.alignment.specs.Template.{no_site, beats, better_of, site_of, better_at, sweep_best, best_of}
 use Rattle.alignment.specs.Known.{raised_of, SameFrom}
 
 better_less : (n : ℕ) (p s : Site) → p.score < n → s.score < n → (better_of p s).score < n
@@ -46,7 +46,7 @@ raised_same : (b : Site) → SameFrom 23 (raised_of b) b
 unfolding raised_of
 raised_same b = go (ltb b.score 22) refl
   where
-    go : (v : Bool) → ltb b.score 22 ≡ v → SameFrom 23 (cond v (record { score = 22; dist = f0; x = b.x; y = b.y }) b) b
+    go : (v : Bool) → ltb b.score 22 ≡ v → SameFrom 23 (cond v (record { score = 22; offset2 = f0; x = b.x; y = b.y }) b) b
     go true e = inr (omega arith, omega (arith, ltb-true b.score 22 e))
     go false e = inl refl
 
@@ -54,16 +54,16 @@ raised_place : (b : Site) → ((raised_of b).x ≡ b.x) × ((raised_of b).y ≡ 
 unfolding raised_of
 raised_place b = go (ltb b.score 22)
   where
-    go : (v : Bool) → ((cond v (record { score = 22; dist = f0; x = b.x; y = b.y }) b).x ≡ b.x) × ((cond v (record { score = 22; dist = f0; x = b.x; y = b.y }) b).y ≡ b.y)
+    go : (v : Bool) → ((cond v (record { score = 22; offset2 = f0; x = b.x; y = b.y }) b).x ≡ b.x) × ((cond v (record { score = 22; offset2 = f0; x = b.x; y = b.y }) b).y ≡ b.y)
     go true = (refl, refl)
     go false = (refl, refl)
 
 module _ (bits : List ℕ) (w h : ℕ) (t : Transform) (c : Float) where
   -- a sweep about another site at the same place
-  sweep_at : (m : ℕ) (step : Float) (p q : Site) → p.x ≡ q.x → p.y ≡ q.y → sweep_best bits w h t c m step p ≡ folded (visited bits w h t c m step q.x q.y) p (range 0 (m * m))
+  sweep_at : (m : ℕ) (step : Float) (p q : Site) → p.x ≡ q.x → p.y ≡ q.y → sweep_best bits w h t c m step p ≡ folded (better_at bits w h t c m step q.x q.y) p (range 0 (m * m))
   unfolding sweep_best
   sweep_at m step p q e f =
-      ap (λ (z : Float). folded (visited bits w h t c m step z p.y) p (range 0 (m * m))) e ∙ ap (λ (z : Float). folded (visited bits w h t c m step q.x z) p (range 0 (m * m))) f
+      ap (λ (z : Float). folded (better_at bits w h t c m step z p.y) p (range 0 (m * m))) e ∙ ap (λ (z : Float). folded (better_at bits w h t c m step q.x z) p (range 0 (m * m))) f
 
   last_sweep : (m : ℕ) (step : Float) (b : Site) → SameFrom 23 (sweep_best bits w h t c m step (raised_of b)) (sweep_best bits w h t c m step b)
   unfolding sweep_best
@@ -72,7 +72,7 @@ module _ (bits : List ℕ) (w h : ℕ) (t : Transform) (c : Float) where
       (same_fold 23 (site_of bits w h t c m step b.x b.y) (range 0 (m * m)) (raised_of b) b (raised_same b))
 
   -- the three sweeps, the last about a raised site
-  pub best_by : (k : Float) (a b r s : Site) → k ≡ c → a ≡ sweep_best bits w h t c 13 half no_site → b ≡ sweep_best bits w h t k 9 f1/8 a → r ≡ raised_of b → s ≡ sweep_best bits w h t k 9 f1/32 r
+  pub best_by : (k : Float) (a b r s : Site) → k ≡ c → a ≡ sweep_best bits w h t c 13 f1/2 no_site → b ≡ sweep_best bits w h t k 9 f1/8 a → r ≡ raised_of b → s ≡ sweep_best bits w h t k 9 f1/32 r
       → SameFrom 23 s (best_of bits w h t c)
   unfolding best_of
   best_by k a b r s e p q o z =

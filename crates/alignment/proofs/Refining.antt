@@ -10,11 +10,7 @@ use Rattle.transform.specs.declared.Transform.{Transform}
 use Rattle.geometry.specs.Build.{built_of}
 use Rattle.geometry.specs.declared.Corners.{Corners}
 use Rattle.alignment.specs.Alignment.{rebuilt_of}
-use Rattle.alignment.specs.declared.Refined.{Refined}
-use Rattle.transform.specs.declared.Point.{Point}
-
-pub refined_same : (t u : Transform) (a b : Option Point) → t ≡ u → a ≡ b → ◌≡◌ {A = Refined} (record { transform = t; marker = a }) (record { transform = u; marker = b })
-refined_same t u a b p q = rw (p, q)
+use Rattle.lcr_core.specs.declared.point.Point.{Point}
 
 module _ (corners : Corners) (a : Option Point) (v : ℕ) (t : Transform) where
   pub rebuilt_found : (b : Result (Option Transform) Refusal) (f : Option Transform) (r : Transform) → b ≡ built_of corners a v → is_some a ≡ true → f ≡ result_unwrap_or b None → r ≡ unwrap_or f t

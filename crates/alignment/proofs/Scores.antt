@@ -12,7 +12,7 @@ use borrow.Author.Tests.{ltb-true, ltb-false, eqb-true, eqb-false, le-leb, lt-le
 use Rattle.lists.specs.Lists.{sum_to}
 use Rattle.transform.specs.declared.Transform.{Transform}
 use Rattle.alignment.specs.declared.template.Site.{Site}
-use Rattle.alignment.specs.Template.{agree, score_of, beats, better_of}
+use Rattle.alignment.specs.Template.{agree, template_score, beats, better_of}
 use Rattle.alignment.specs.Counting.{UpTo, least_of}
 use Rattle.alignment.proofs.Taps.{bit_most}
 
@@ -28,8 +28,8 @@ module _ (bits : List ℕ) (w h : ℕ) (t : Transform) (x y : Float) where
   agree_most k = bit_most _
 
   -- the score after k modules, n of which agree, cannot reach least
-  pub out_of_reach : (least k n : ℕ) → k ≤ 25 → n ≡ sum_to k (agree bits w h t x y) → n + (25 - k) < least → UpTo least (score_of bits w h t x y) n
-  unfolding score_of
+  pub out_of_reach : (least k n : ℕ) → k ≤ 25 → n ≡ sum_to k (agree bits w h t x y) → n + (25 - k) < least → UpTo least (template_score bits w h t x y) n
+  unfolding template_score
   out_of_reach least k n l e b =
       let m = sum_most (agree bits w h t x y) agree_most k (25 - k) in
       let z : k + (25 - k) ≡ 25 = omega arith in
@@ -51,23 +51,23 @@ beats_when a b false = go (ltb a b) (eqb b a) refl
     go false true p = sym (lt-leb (a + 1) b (omega (arith, ltb-false a b p)))
     go false false p = sym (lt-leb (a + 1) b (omega (arith, ltb-false a b p)))
 
-module _ (best s : Site) (least r : ℕ) (e : least ≡ least_of best s.dist) (u : UpTo least s.score r) where
+module _ (best s : Site) (least r : ℕ) (e : least ≡ least_of best s.offset2) (u : UpTo least s.score r) where
   beaten : beats s best ≡ leb least s.score
   unfolding beats least_of
-  beaten = rw e (beats_when best.score s.score (lt s.dist best.dist))
+  beaten = rw e (beats_when best.score s.score (lt s.offset2 best.offset2))
 
-  pub best-stays : r < least → best ≡ better_of best s
+  pub best_stays : r < least → best ≡ better_of best s
   unfolding better_of
-  best-stays h = rw (beaten, lt-leb least s.score (below u))
+  best_stays h = rw (beaten, lt-leb least s.score (below u))
     where
       below : UpTo least s.score r → s.score < least
       below (inl q) = omega arith
       below (inr q) = q.1
 
-  pub site_taken : least ≤ r → ◌≡◌ {A = Site} (record { score = r; dist = s.dist; x = s.x; y = s.y }) (better_of best s)
+  pub site_taken : least ≤ r → ◌≡◌ {A = Site} (record { score = r; offset2 = s.offset2; x = s.x; y = s.y }) (better_of best s)
   unfolding better_of
   site_taken h = go u
     where
-      go : UpTo least s.score r → ◌≡◌ {A = Site} (record { score = r; dist = s.dist; x = s.x; y = s.y }) (cond (beats s best) s best)
+      go : UpTo least s.score r → ◌≡◌ {A = Site} (record { score = r; offset2 = s.offset2; x = s.x; y = s.y }) (cond (beats s best) s best)
       go (inl q) = rw (beaten, le-leb least s.score (omega arith), q)
       go (inr q) = absurd (omega arith)

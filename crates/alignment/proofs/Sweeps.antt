@@ -1,4 +1,5 @@
 -- The sites of a sweep, and the first best of them. Assumes nothing.
+use Rattle.std.proofs.lemmas.Bool.{and_parts}
 use mathlib.Core.Path.{◌≡◌, refl, sym, subst}
 use mathlib.Core.Bool.{Bool, true, false, ◌&&◌}
 use mathlib.Core.List.{List, [], ◌∷◌}
@@ -11,10 +12,9 @@ use lib.Ieee.{Float, binary32}
 use Rattle.lists.specs.Lists.{Each, count, range, folded}
 use Rattle.lists.proofs.Filters.{each_right}
 use Rattle.float.specs.Floats.{is_number}
-use Rattle.float.specs.Steps.{times32}
-use Rattle.float.proofs.Order.{and_both}
+use Rattle.float.specs.Steps.{◌⊗◌}
 use Rattle.transform.specs.declared.Transform.{Transform}
-use Rattle.alignment.specs.Template.{less, along, site_at, site_of, better_of, sweep_best}
+use Rattle.alignment.specs.Template.{signed32, along, site_at, site_of, better_of, sweep_best}
 use Rattle.alignment.specs.declared.template.Site.{Site}
 use Rattle.alignment.proofs.NumberLaws.{Number, finite, plus_number, squares_number}
 use Rattle.alignment.proofs.First.{FirstBest, Numbered, first-best}
@@ -35,45 +35,45 @@ each_listed P g k zero h = tt
 each_listed P g k (suc n) h = (h k (omega arith), each_listed P g (suc k) n (λ i l. h i (omega arith)))
 
 -- a test of each number below n
-unfoldable pub below : ℕ → (ℕ → Bool) → Bool
-below zero p = true
-below (suc n) p = below n p && p n
+unfoldable pub all_below : ℕ → (ℕ → Bool) → Bool
+all_below zero p = true
+all_below (suc n) p = all_below n p && p n
 
-below_at : (n : ℕ) (p : ℕ → Bool) → below n p ≡ true → (i : ℕ) → i < n → p i ≡ true
-unfolding below
-below_at zero p h i l = absurd (omega arith)
-below_at (suc n) p h i l = go (eqb i n) refl (below_at n p (and_both (below n p) (p n) h).0 i)
+all_below_at : (n : ℕ) (p : ℕ → Bool) → all_below n p ≡ true → (i : ℕ) → i < n → p i ≡ true
+unfolding all_below
+all_below_at zero p h i l = absurd (omega arith)
+all_below_at (suc n) p h i l = go (eqb i n) refl (all_below_at n p (and_parts (all_below n p) (p n) h).0 i)
   where
     go : (v : Bool) → eqb i n ≡ v → (i < n → p i ≡ true) → p i ≡ true
-    go true e f = rw (eqb-true i n e) (and_both (below n p) (p n) h).1
+    go true e f = rw (eqb-true i n e) (and_parts (all_below n p) (p n) h).1
     go false e f = let x = eqb-false i n e in f (omega arith)
 
 -- the steps of a sweep are finite
-unfoldable pub steps : ℕ → Float → Bool
-steps m step = below m (λ i. finite (times32 (less i (m / 2)) step))
+unfoldable pub finite_steps : ℕ → Float → Bool
+finite_steps m step = all_below m (λ i. finite (signed32 i (m / 2) ⊗ step))
 
 -- a site at numbers
 pub record Placed (s : Site) : Type 0 where
   pub x_number : Number s.x
   pub y_number : Number s.y
-  pub dist_number : is_number s.dist ≡ true
+  pub offset2_number : is_number s.offset2 ≡ true
 
 module _ (bits : List ℕ) (w h : ℕ) (t : Transform) (c : Float) where
   -- the sites of a sweep about the best so far, row by row
   pub sites : ℕ → Float → Site → List Site
   sites m step best = listed (site_of bits w h t c m step best.x best.y) (range 0 (m * m))
 
-  module _ (m : ℕ) (step : Float) (best : Site) (some : 0 < m) (ok : steps m step ≡ true) (b : Placed best) where
+  module _ (m : ℕ) (step : Float) (best : Site) (some : 0 < m) (ok : finite_steps m step ≡ true) (b : Placed best) where
     along_number : (a : Float) → Number a → (i : ℕ) → i < m → Number (along m step a i)
-    unfolding steps
-    along_number a n i l = plus_number binary32 a _ n (below_at m _ ok i l)
+    unfolding finite_steps
+    along_number a n i l = plus_number binary32 a _ n (all_below_at m _ ok i l)
 
     site_placed : (k : ℕ) → k < m * m → Placed (site_of bits w h t c m step best.x best.y k)
     unfolding site_at
     site_placed k l =
         let p = along_number best.x b.x_number (k % m) (mod-lt k some) in
         let q = along_number best.y b.y_number (k / m) ((div-lt_iff_lt-mul some).1 l) in
-        record { x_number = p; y_number = q; dist_number = squares_number _ _ p q }
+        record { x_number = p; y_number = q; offset2_number = squares_number _ _ p q }
 
     all_placed : Each Placed (best ∷ sites m step best)
     unfolding sites
@@ -81,7 +81,7 @@ module _ (bits : List ℕ) (w h : ℕ) (t : Transform) (c : Float) where
 
     numbered : (l : List Site) → Each Placed l → Numbered l
     numbered [] e = tt
-    numbered (s ∷ l) e = (e.0.dist_number, numbered l e.1)
+    numbered (s ∷ l) e = (e.0.offset2_number, numbered l e.1)
 
     pub sweep_first : FirstBest (best ∷ sites m step best) (sweep_best bits w h t c m step best)
     unfolding sweep_best sites

@@ -9,11 +9,11 @@ use mir.Val.{bool_byte as from_bool}
 use lib.Ieee.{Float, neg}
 use borrow.Author.Tests.{lt-ltb, le-ltb}
 use Rattle.lists.specs.Lists.{folded}
-use Rattle.float.specs.Constants.{f0, quarter}
+use Rattle.float.specs.Constants.{f0, f1/4}
 use Rattle.binary.specs.Binary.{bit}
 use Rattle.binary.proofs.Bits.{bit_small}
-use Rattle.geometry.specs.Order.{point}
-use Rattle.transform.specs.declared.Point.{Point}
+use Rattle.lcr_core.specs.Finder.{point}
+use Rattle.lcr_core.specs.declared.point.Point.{Point}
 use Rattle.transform.specs.declared.Transform.{Transform}
 use Rattle.alignment.specs.declared.template.Votes.{Votes}
 use Rattle.alignment.specs.Template.{outside_of, pixel_at, tapped, tap_by, no_votes, module_dark}
@@ -58,12 +58,12 @@ module _ (v d e : Votes) (p : Counted v d) (q : Counted d e) (l : v.seen ≤ 3) 
 
 -- the module at (x, y), of whose taps the first three give the votes a, b and v
 module _ (bits : List ℕ) (w h : ℕ) (t : Transform) (x y : Float) (a b v : Votes) (p : a ≡ tap_by bits w h t x y no_votes (point f0 f0))
-    (q : b ≡ tap_by bits w h t x y a (point (neg quarter) f0)) (r : v ≡ tap_by bits w h t x y b (point quarter f0)) where
+    (q : b ≡ tap_by bits w h t x y a (point (neg f1/4) f0)) (r : v ≡ tap_by bits w h t x y b (point f1/4 f0)) where
   fourth : Votes
-  fourth = tap_by bits w h t x y v (point f0 (neg quarter))
+  fourth = tap_by bits w h t x y v (point f0 (neg f1/4))
 
   fifth : Votes
-  fifth = tap_by bits w h t x y fourth (point f0 quarter)
+  fifth = tap_by bits w h t x y fourth (point f0 f1/4)
 
   by_five : module_dark bits w h t x y ≡ ltb fifth.seen (fifth.dark * 2)
   unfolding module_dark folded fourth fifth
@@ -77,7 +77,7 @@ module _ (bits : List ℕ) (w h : ℕ) (t : Transform) (x y : Float) (a b v : Vo
   unfolding fourth fifth
   module_light l m e = sym (by_five ∙ light_decides v fourth fifth (tap_counted bits w h v _) (tap_counted bits w h fourth _) l m e)
 
-  pub module_five : (d e : Votes) → d ≡ tap_by bits w h t x y v (point f0 (neg quarter)) → e ≡ tap_by bits w h t x y d (point f0 quarter)
+  pub module_five : (d e : Votes) → d ≡ tap_by bits w h t x y v (point f0 (neg f1/4)) → e ≡ tap_by bits w h t x y d (point f0 f1/4)
       → ltb e.seen (e.dark * 2) ≡ module_dark bits w h t x y
   unfolding module_dark folded
   module_five d e m n = rw (n, m, r, q, p)

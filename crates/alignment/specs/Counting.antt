@@ -1,4 +1,4 @@
--- What is known of counts that a function need not finish. For contracts of inner functions.
+-- For inner contracts and proofs. What is known of counts that a function need not finish.
 use Rattle.std.specs.Prelude.{ℕ, ◌+◌, ◌≤◌, ◌<◌, ◌≡◌, cond, ◌⊎◌, Float}
 use Rattle.std.specs.Float.Ieee.{lt}
 use Rattle.alignment.specs.declared.template.Votes.{Votes}
@@ -17,4 +17,4 @@ UpTo least s r = (r ≡ s) ⊎ ((r < least) × (s < least))
 
 -- the least score by which a site with the squared offset d beats the best so far
 unfoldable pub least_of : Site → Float → ℕ
-least_of best d = cond (lt d best.dist) best.score (best.score + 1)
+least_of best d = cond (lt d best.offset2) best.score (best.score + 1)

@@ -2,20 +2,21 @@
 #![tactic(auto)]
 
 ghost use Rattle.std.specs.Prelude.{◌≡◌};
-ghost use Rattle.alignment.specs.Alignment.{match_of, searched_of, located_of, locate_of, rebuilt_of, refine_of};
+ghost use Rattle.alignment.specs.Alignment.{match_answer, searched_of, located_of, locate_answer, rebuilt_of, refine_answer};
 
 use binary::picture::LentBits;
 use geometry::{Corners, build_transform};
 use lcr_core::Refusal;
+use lcr_core::point::Point;
 use lcr_core::version::Version;
-use rows::find_alignment;
+use row_search::find_alignment;
 use template::View;
-use transform::{Point, Transform};
+use transform::Transform;
 
 mod matching;
 mod template;
 
-// A transform, and the marker that it is built through, if there is one.
+// The marker that refining found, if any, and the transform through it; the one given where there is no marker or no such transform.
 #[derive(Clone, Copy)]
 pub struct Refined {
     pub transform: Transform,
@@ -23,12 +24,13 @@ pub struct Refined {
 }
 
 // The marker by its 5 × 5 modules, through the transform, or none.
+#[tactic(auto, using(lcr_core::proofs::Answers::refused_by, lcr_core::proofs::Answers::checked_passed), unfolding(crate::specs::Alignment::alignment_refusal, crate::specs::Alignment::match_answer))]
 pub fn match_alignment(
     bits: LentBits<'_>,
     t: Transform,
     version: Version,
 ) -> Result<Option<Point>, Refusal>
-    ensures { let p = bits.entry in result ≡ match_of p.bits.now p.width p.height t version.0 }
+    ensures { let p = bits.entry in result ≡ match_answer p.bits.now p.width p.height t version.0 }
 {
     let view = View::new(bits, version, t)?;
     Ok(view.matched())
@@ -36,6 +38,7 @@ pub fn match_alignment(
 
 impl<'a> View<'a> {
     // The marker by runs along rows, about the place where the transform puts its centre. A view's picture is not refused.
+    #[tactic(auto, unfolding(crate::specs::Alignment::searched_of, row_search::specs::Rows::find_answer))]
     fn searched(&self, module: f32) -> Option<Point>
         ensures { let s = self.now in result ≡ searched_of s.picture.bits.now s.picture.width s.picture.height s.transform s.version.0 «module» }
     {
@@ -45,6 +48,7 @@ impl<'a> View<'a> {
     }
 
     // The marker by its modules, or else by runs along rows.
+    #[tactic(auto, unfolding(crate::specs::Alignment::located_of))]
     fn located(&self, module: f32) -> Option<Point>
         ensures { let s = self.now in result ≡ located_of s.picture.bits.now s.picture.width s.picture.height s.transform s.version.0 «module» }
     {
@@ -59,20 +63,22 @@ impl<'a> View<'a> {
     }
 }
 
-// The same, refused where the picture or the version is.
+// The marker by its modules, or else by runs along rows; refused where the picture or the version is.
+#[tactic(auto, using(lcr_core::proofs::Answers::refused_by, lcr_core::proofs::Answers::checked_passed), unfolding(crate::specs::Alignment::alignment_refusal, crate::specs::Alignment::locate_answer))]
 pub fn locate_alignment(
     bits: LentBits<'_>,
     t: Transform,
     version: Version,
     module: f32,
 ) -> Result<Option<Point>, Refusal>
-    ensures { let p = bits.entry in result ≡ locate_of p.bits.now p.width p.height t version.0 «module» }
+    ensures { let p = bits.entry in result ≡ locate_answer p.bits.now p.width p.height t version.0 «module» }
 {
     let view = View::new(bits, version, t)?;
     Ok(view.located(module))
 }
 
 // The transform through the finders and the marker; the one given where there is no marker or no such transform.
+#[tactic(auto, using(crate::proofs::Refining::rebuilt_found, crate::proofs::Refining::rebuilt_missing), unfolding(crate::specs::Alignment::rebuilt_of))]
 fn rebuilt(
     corners: Corners,
     marker: Option<Point>,
@@ -89,7 +95,8 @@ fn rebuilt(
     }
 }
 
-// The marker again, through a better transform, and the transform through it.
+// The marker located once more, through the given transform, and the transform rebuilt through it.
+#[tactic(auto, using(lcr_core::proofs::Answers::refused_by, lcr_core::proofs::Answers::checked_passed), unfolding(crate::specs::Alignment::alignment_refusal, crate::specs::Alignment::refine_answer, crate::specs::Alignment::refined_of))]
 pub fn refine_alignment(
     bits: LentBits<'_>,
     corners: Corners,
@@ -97,7 +104,7 @@ pub fn refine_alignment(
     transform: Transform,
     module: f32,
 ) -> Result<Refined, Refusal>
-    ensures { let p = bits.entry in result ≡ refine_of p.bits.now p.width p.height corners version.0 transform «module» }
+    ensures { let p = bits.entry in result ≡ refine_answer p.bits.now p.width p.height corners version.0 transform «module» }
 {
     let view = View::new(bits, version, transform)?;
     let marker = view.located(module);

@@ -1,9 +1,9 @@
 // The template match: the site at which most of the marker's 25 modules have their colour.
 ghost use Rattle.std.specs.Prelude.{◌≡◌, ◌+◌, ◌*◌, ◌≤◌, ◌<◌, length, IfOk};
 ghost use Rattle.lcr_core.specs.Outcome.{number_of};
-ghost use Rattle.float.specs.Steps.{plus32};
+ghost use Rattle.float.specs.Steps.{◌⊕◌};
 ghost use Rattle.transform.specs.Apply.{applied};
-ghost use Rattle.alignment.specs.Template.{outside_of, pixel_at, tapped, module_dark, want_dark, less, agree, score_of, site_at, better_of, sweep_best};
+ghost use Rattle.alignment.specs.Template.{outside_of, pixel_at, tapped, module_dark, want_dark, signed32, agree, template_score, site_at, better_of, sweep_best};
 ghost use Rattle.alignment.specs.Alignment.{alignment_refusal};
 ghost use Rattle.alignment.specs.Counting.{Counted, UpTo, least_of};
 ghost use Rattle.alignment.specs.Known.{KnownAt, Known, raised_of};
@@ -11,8 +11,9 @@ ghost use Rattle.alignment.specs.Known.{KnownAt, Known, raised_of};
 use binary::picture::{BitPicture, LentBits};
 use float::to_u32;
 use lcr_core::Refusal;
+use lcr_core::point::Point;
 use lcr_core::version::Version;
-use transform::{Point, Transform};
+use transform::Transform;
 
 // How many taps of a module lie in the picture, and how many of these are dark.
 #[derive(Clone, Copy)]
@@ -25,17 +26,18 @@ pub struct Votes {
 #[derive(Clone, Copy)]
 pub struct Site {
     pub score: u8,
-    pub dist: f32,
+    pub offset2: f32,
     pub x: f32,
     pub y: f32,
 }
 
 impl Site {
     // The least score by which a site with such a squared offset beats this one.
-    fn needed(self, dist: f32) -> u16
-        ensures { result ≡ least_of self dist }
+    #[tactic(auto, unfolding(crate::specs::Counting::least_of))]
+    fn needed(self, offset2: f32) -> u16
+        ensures { result ≡ least_of self offset2 }
     {
-        if dist < self.dist {
+        if offset2 < self.offset2 {
             self.score as u16
         } else {
             self.score as u16 + 1
@@ -43,13 +45,14 @@ impl Site {
     }
 
     // The same place, with a score that only a site with 23 beats: no other site of the last sweep counts.
+    #[tactic(auto, unfolding(crate::specs::Known::raised_of))]
     pub fn raised(self) -> Site
         ensures { result ≡ raised_of self }
     {
         if self.score < 22 {
             return Site {
                 score: 22,
-                dist: 0.0,
+                offset2: 0.0,
                 ..self
             };
         }
@@ -58,6 +61,7 @@ impl Site {
 }
 
 // Whether a coordinate is outside 0 .. n. A NaN is not.
+#[tactic(auto, unfolding(crate::specs::Template::outside_of))]
 fn outside(x: f32, n: u16) -> bool
     ensures { result ≡ outside_of n x }
 {
@@ -65,8 +69,9 @@ fn outside(x: f32, n: u16) -> bool
 }
 
 // k - n
-fn offset(k: u8, n: u8) -> f32
-    ensures { result ≡ less k n }
+#[tactic(auto, using(float::proofs::Signs::neg_int), unfolding(crate::specs::Template::signed32))]
+fn signed32(k: u8, n: u8) -> f32
+    ensures { result ≡ signed32 k n }
 {
     if n <= k {
         (k - n) as f32
@@ -76,6 +81,7 @@ fn offset(k: u8, n: u8) -> f32
 }
 
 // Whether the module in column i and row j of the marker is dark: all but the ring about the middle one.
+#[tactic(auto, unfolding(crate::specs::Template::want_dark))]
 fn wants_dark(i: u8, j: u8) -> bool
     ensures { result ≡ want_dark i j }
 {
@@ -111,6 +117,7 @@ impl<'a> View<'a> {
     }
 
     // The pixel at p, 1 for dark.
+    #[tactic(auto, using(crate::proofs::Taps::bit_from), unfolding(crate::specs::Template::pixel_at))]
     fn pixel_at(&self, p: Point) -> u8
         ensures value { let s = self.now in result ≡ pixel_at s.picture.bits.now s.picture.width s.picture.height p }
         ensures upper_bound { result ≤ 1 }
@@ -119,6 +126,7 @@ impl<'a> View<'a> {
     }
 
     // One tap more, at p.
+    #[tactic(auto, unfolding(crate::specs::Template::tapped))]
     fn tap(&self, p: Point, v: Votes) -> Votes
         requires { (v.seen ≤ 4) × (v.dark ≤ v.seen) }
         ensures value { let s = self.now in result ≡ tapped s.picture.bits.now s.picture.width s.picture.height v p }
@@ -168,8 +176,8 @@ impl<'a> View<'a> {
     }
 
     // The better of the best site so far and the site at offset (x, y) from the centre (c, c).
-    fn visit(&self, c: f32, x: f32, y: f32, best: Site, colours: &[u8], at: u16) -> Site
-        requires { let s = self.now in KnownAt s.picture.bits.now s.picture.width s.picture.height s.transform (plus32 c x) (plus32 c y) colours.now at }
+    fn better_site(&self, c: f32, x: f32, y: f32, best: Site, colours: &[u8], at: u16) -> Site
+        requires { let s = self.now in KnownAt s.picture.bits.now s.picture.width s.picture.height s.transform (c ⊕ x) (c ⊕ y) colours.now at }
         ensures { let s = self.now in result ≡ better_of best (site_at s.picture.bits.now s.picture.width s.picture.height s.transform c x y) }
     {
         let modules = Modules {
@@ -179,28 +187,34 @@ impl<'a> View<'a> {
             colours,
             at,
         };
-        let dist = x * x + y * y;
-        let least = best.needed(dist);
+        let offset2 = x * x + y * y;
+        let least = best.needed(offset2);
         let score = modules.score(least);
         if (score as u16) < least {
             return best;
         }
-        Site { score, dist, x, y }
+        Site {
+            score,
+            offset2,
+            x,
+            y,
+        }
     }
 
     // m × m sites, `step` apart, about the best so far, with a table of their modules' colours or an empty one.
+    #[tactic(auto, using(lists::proofs::Folds::fold_more, lists::proofs::Folds::fold_end), unfolding(crate::specs::Template::sweep_best))]
     pub fn sweep(&self, c: f32, m: u8, step: f32, best: Site, colours: &[u8]) -> Site
         requires { let s = self.now in (0 < m) × (m ≤ 13) × Known s.picture.bits.now s.picture.width s.picture.height s.transform c m step best colours.now }
         ensures { let s = self.now in result ≡ sweep_best s.picture.bits.now s.picture.width s.picture.height s.transform c m step best }
     {
-        let mut nearest = best;
+        let mut so_far = best;
         for k in 0..m * m {
-            let dx = offset(k % m, m / 2) * step;
-            let dy = offset(k / m, m / 2) * step;
+            let dx = signed32(k % m, m / 2) * step;
+            let dy = signed32(k / m, m / 2) * step;
             let at = (k % m) as u16 + 21 * (k / m) as u16;
-            nearest = self.visit(c, best.x + dx, best.y + dy, nearest, colours, at);
+            so_far = self.better_site(c, best.x + dx, best.y + dy, so_far, colours, at);
         }
-        nearest
+        so_far
     }
 }
 
@@ -217,19 +231,21 @@ struct Modules<'a, 'b> {
 
 impl<'a, 'b> Modules<'a, 'b> {
     // Whether the module in column i and row j is dark.
+    #[tactic(auto, using(binary::proofs::Bits::bit_one))]
     fn sees_dark(&self, i: u8, j: u8) -> bool
         requires { (i < 5) × (j < 5) }
-        ensures { let s = self.now in let v = s.view in result ≡ module_dark v.picture.bits.now v.picture.width v.picture.height v.transform (plus32 s.x (less i 2)) (plus32 s.y (less j 2)) }
+        ensures { let s = self.now in let v = s.view in result ≡ module_dark v.picture.bits.now v.picture.width v.picture.height v.transform (s.x ⊕ signed32 i 2) (s.y ⊕ signed32 j 2) }
     {
         if self.colours.is_empty() {
-            let x = self.x + offset(i, 2);
-            let y = self.y + offset(j, 2);
+            let x = self.x + signed32(i, 2);
+            let y = self.y + signed32(j, 2);
             return self.view.is_dark(x, y);
         }
         self.colours[self.at as usize + 2 * i as usize + 42 * j as usize] == 1
     }
 
     // 1 where module k has its colour.
+    #[tactic(auto, using(crate::proofs::Taps::bit_from), unfolding(crate::specs::Template::agree))]
     fn agrees(&self, k: u8) -> u8
         requires { k < 25 }
         ensures value { let s = self.now in let v = s.view in result ≡ agree v.picture.bits.now v.picture.width v.picture.height v.transform s.x s.y k }
@@ -241,8 +257,9 @@ impl<'a, 'b> Modules<'a, 'b> {
     }
 
     // How many of them have their colour. It stops where `least` is out of reach.
+    #[tactic(auto, using(lists::proofs::Folds::sum_more), unfolding(lists::specs::Lists::sum_to, crate::specs::Template::template_score))]
     fn score(&self, least: u16) -> u8
-        ensures { let s = self.now in let v = s.view in UpTo least (score_of v.picture.bits.now v.picture.width v.picture.height v.transform s.x s.y) result }
+        ensures { let s = self.now in let v = s.view in UpTo least (template_score v.picture.bits.now v.picture.width v.picture.height v.transform s.x s.y) result }
     {
         let mut n: u8 = 0;
         for k in 0..25 {

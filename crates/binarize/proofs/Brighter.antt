@@ -9,10 +9,10 @@ use native.Mathlib.Omega.{arith}
 use lib.Dec.{eqb, leb, ltb}
 use lib.ListN.{length}
 use borrow.Author.Tests.{leb-true, leb-false, le-leb, lt-leb, ltb-true, le-ltb, ne_eqb}
-use Rattle.lists.specs.Lists.{Each, range, those}
+use Rattle.lists.specs.Lists.{Each, range, those, mean, at}
 use Rattle.lists.proofs.Filters.{each_map, each_those, those_same, how_many_same}
 use Rattle.lists.proofs.Folds.{each_range}
-use Rattle.blocks.specs.Blocks.{mean, at, cells, about, blocks_on}
+use Rattle.blocks.specs.Blocks.{cells, about, blocks_on}
 use Rattle.blocks.proofs.Grids.{cells-within}
 use Rattle.blocks.proofs.Brighter.{more, mean_more, map_more}
 use Rattle.binarize.specs.Levels.{midway, level, first_level, marked, marked_means, any_marked, chosen, global_level, window, window_level, level_at}

@@ -7,11 +7,11 @@ use native.Mathlib.Nat.{mul_comm}
 use lib.Dec.{ltb}
 use lib.Arith.{digits_div, digits_mod}
 use borrow.Author.Tests.{lt-ltb, le-ltb}
-use Rattle.lists.specs.Lists.{filled}
+use Rattle.lists.specs.Lists.{filled, at}
 use Rattle.lists.proofs.Tabulate.{get_or-filled}
 use Rattle.lists.proofs.Numbers.{row_within}
 use Rattle.binary.specs.Binary.{bit}
-use Rattle.blocks.specs.Blocks.{at, blocks_on}
+use Rattle.blocks.specs.Blocks.{blocks_on}
 use Rattle.binarize.specs.Levels.{global_level, window_level}
 use Rattle.binarize.specs.Binarize.{dark_by}
 

@@ -12,11 +12,13 @@ use lib.Pow.{high, low}
 use Rattle.lists.proofs.Tabulate.{filled_step}
 use Rattle.std.specs.Int.{from_bool}
 use Rattle.binary.specs.Binary.{bit, word, byte_of}
-use Rattle.binary.specs.Writing.{rest_after, bytes_after, Written}
-use Rattle.binary.proofs.Bits.{word_bound, word_low, written_step}
+use Rattle.binarize.specs.Writing.{rest_after, bytes_after, Written}
+use Rattle.binary.proofs.Bits.{word_bound}
+use Rattle.binary.proofs.Bits.{word_low}
+use Rattle.binarize.proofs.Written.{written_step}
 use Rattle.binary.proofs.Words.{word-append, word_same}
-use Rattle.blocks.specs.Blocks.{at}
-use Rattle.binarize.specs.declared.rows.Writer.{Writer}
+use Rattle.lists.specs.Lists.{at}
+use Rattle.binarize.specs.declared.writing.Writer.{Writer}
 use Rattle.binarize.specs.Splits.{Puts, byte_of_eight, rest_of_eight}
 
 -- a test as a number

@@ -12,10 +12,10 @@ use Rattle.std.proofs.Common.{get_or-take, length-take, length-drop}
 use lib.Seq.{get_or-append-add, get_or-drop}
 use lib.Dec.{eqb, ltb}
 use borrow.Author.Tests.{eqb-true, ltb-true, ltb-false}
-use Rattle.lists.specs.Lists.{tabulate, filled}
+use Rattle.lists.specs.Lists.{tabulate, filled, at}
 use Rattle.lists.proofs.Tabulate.{length-tabulate, get_or-filled}
 use Rattle.lists.proofs.Filters.{those-none}
-use Rattle.blocks.specs.Blocks.{at, cells, about}
+use Rattle.blocks.specs.Blocks.{cells, about}
 use Rattle.blocks.proofs.Grids.{each_cells}
 use Rattle.binarize.specs.Levels.{marked, window, window_level}
 use Rattle.binarize.specs.Flags.{flagged, Flagged}

@@ -12,10 +12,10 @@ use borrow.Author.Tests.{lt-ltb}
 use Rattle.std.specs.Prelude.{Option, Some, None, unwrap_or}
 use Rattle.std.specs.List.{list_any}
 use Rattle.std.proofs.lemmas.List.Folds.{list_any_more}
-use Rattle.lists.specs.Lists.{count, range, flat_map, how_many}
+use Rattle.lists.specs.Lists.{count, range, flat_map, how_many, mean, at}
 use Rattle.lists.proofs.Filters.{how_many-append}
 use Rattle.lists.proofs.Folds.{range_more}
-use Rattle.blocks.specs.Blocks.{mean, at, cells, about}
+use Rattle.blocks.specs.Blocks.{cells, about}
 use Rattle.binarize.specs.Levels.{midway, level, first_level, marked, marked_means, any_marked, chosen, global_level, window, window_level}
 use Rattle.binarize.specs.Splits.{Tally, level_of, Tallied}
 

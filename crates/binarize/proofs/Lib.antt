@@ -1,3 +1,4 @@
+pub mod Written
 pub mod Products
 pub mod FlagLaws
 pub mod Tallies

@@ -1,4 +1,5 @@
 -- What is refused, and what is known where the checks pass. Assumes nothing.
+use Rattle.std.proofs.lemmas.Bool.{or_parts}
 use mathlib.Core.Path.{◌≡◌, refl}
 use mathlib.Core.Bool.{Bool, true, false, cond, ◌||◌}
 use mathlib.Core.List.{List}
@@ -7,11 +8,11 @@ use native.Mathlib.Omega.{arith}
 use lib.Dec.{ltb}
 use borrow.Author.Tests.{ltb-false}
 use Rattle.lcr_core.specs.Outcome.{zero_side, large_side}
-use Rattle.lcr_core.proofs.Checks.{or_false, first_passes}
+use Rattle.lcr_core.proofs.Checks.{first_passes}
 use Rattle.binary.specs.Binary.{bytes_of}
 use Rattle.blocks.specs.Blocks.{blocks_in, under, blocks_refusal}
 use Rattle.binarize.specs.Binarize.{binarize_refusal}
-use Rattle.binarize.specs.Splits.{Passed}
+use Rattle.binarize.specs.Splits.{BinarizePassed}
 
 -- the checks in their order
 abbrev chain : Bool → Bool → Bool → Bool → ℕ
@@ -43,14 +44,14 @@ room_decides len w h room work = go (zero_side w h) (large_side w h) (ltb len (w
     go false false false true false h = refl
     go false false false false false h = refl
 
-pub passes : (len w h room : ℕ) (work : List ℕ) → binarize_refusal len w h room work ≡ 0 → Passed len w h room work
+pub passes : (len w h room : ℕ) (work : List ℕ) → binarize_refusal len w h room work ≡ 0 → BinarizePassed len w h room work
 unfolding binarize_refusal blocks_refusal
 passes len w h room work z =
     let p1 = first_passes (zero_side w h) 0 _ z in
     let p2 = first_passes (large_side w h) 1 _ p1.1 in
     let p3 = first_passes (ltb len (w * h)) 3 _ p2.1 in
     let p4 = first_passes (ltb room (bytes_of (w * h)) || under (blocks_in w h) work) 4 _ p3.1 in
-    let q = or_false (ltb room (bytes_of (w * h))) (under (blocks_in w h) work) p4.0 in
+    let q = or_parts (ltb room (bytes_of (w * h))) (under (blocks_in w h) work) p4.0 in
     record {
       values = simp (p1.0, p2.0, p3.0, q.1);
       bits = ltb-false room (bytes_of (w * h)) q.0;

@@ -7,12 +7,11 @@ use native.Mathlib.Omega.{arith}
 use lib.ListN.{length, length-append}
 use lib.Dec.{eqb, leb, ltb}
 use borrow.Author.Tests.{lt-ltb, le-ltb, leb-true, leb-false}
-use Rattle.lists.specs.Lists.{folded, those}
+use Rattle.lists.specs.Lists.{folded, those, sum}
 use Rattle.lists.proofs.Filters.{those-append}
 use Rattle.lists.proofs.Folds.{folded-append}
-use Rattle.blocks.specs.Blocks.{sum}
 use Rattle.binarize.specs.Levels.{marked, marked_means}
-use Rattle.binarize.specs.Splits.{Tally, with_mean, with_block, block_step, no_block, Tallied}
+use Rattle.binarize.specs.Splits.{Tally, with_mean, with_block, split_block, no_block, Tallied}
 
 sum_more : (l : List ℕ) (v : ℕ) → sum (l ++ (v ∷ [])) ≡ sum l + v
 unfolding folded
@@ -64,19 +63,19 @@ tallied_more l m v t h = go (leb v m) refl
 
 -- the blocks of a list, one after the other
 module _ (means mark : ℕ → ℕ) (m : ℕ) where
-  tallied_from : (is l : List ℕ) (t : Tally) → Tallied l m t → Tallied (l ++ marked_means means mark is) m (folded (block_step means mark m) t is)
-  unfolding those folded block_step with_block
+  tallied_from : (is l : List ℕ) (t : Tally) → Tallied l m t → Tallied (l ++ marked_means means mark is) m (folded (split_block means mark m) t is)
+  unfolding those folded split_block with_block
   tallied_from [] l t h = rw append-nil h
   tallied_from (i ∷ is) l t h = go (eqb (mark i) 1) (tallied_from is)
     where
-      go : (b : Bool) → ((k : List ℕ) (s : Tally) → Tallied k m s → Tallied (k ++ marked_means means mark is) m (folded (block_step means mark m) s is))
-          → Tallied (l ++ map means (cond b (i ∷ those (marked mark) is) (those (marked mark) is))) m (folded (block_step means mark m) (cond b (with_mean m t (means i)) t) is)
+      go : (b : Bool) → ((k : List ℕ) (s : Tally) → Tallied k m s → Tallied (k ++ marked_means means mark is) m (folded (split_block means mark m) s is))
+          → Tallied (l ++ map means (cond b (i ∷ those (marked mark) is) (those (marked mark) is))) m (folded (split_block means mark m) (cond b (with_mean m t (means i)) t) is)
       go true ih =
-          subst (λ (k : List ℕ). Tallied k m (folded (block_step means mark m) (with_mean m t (means i)) is)) (append_assoc l (means i ∷ []) (marked_means means mark is))
+          subst (λ (k : List ℕ). Tallied k m (folded (split_block means mark m) (with_mean m t (means i)) is)) (append_assoc l (means i ∷ []) (marked_means means mark is))
           (ih (l ++ (means i ∷ [])) (with_mean m t (means i)) (tallied_more l m (means i) t h))
       go false ih = ih l t h
 
-  pub tallied : (is : List ℕ) (t : Tally) → t ≡ folded (block_step means mark m) no_block is → Tallied (marked_means means mark is) m t
+  pub tallied : (is : List ℕ) (t : Tally) → t ≡ folded (split_block means mark m) no_block is → Tallied (marked_means means mark is) m t
   unfolding those folded
   tallied is t e =
       subst (Tallied (marked_means means mark is) m) (sym e)

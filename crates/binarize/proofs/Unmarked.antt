@@ -6,11 +6,11 @@ use Prim.Native.Nat.{ℕ, ◌+◌, ◌*◌, ◌/◌, ◌%◌, ◌<◌}
 use native.Mathlib.Omega.{arith}
 use lib.Dec.{eqb, ltb}
 use borrow.Author.Tests.{le-ltb}
-use Rattle.lists.specs.Lists.{range}
+use Rattle.lists.specs.Lists.{range, at}
 use Rattle.lists.proofs.Numbers.{row_within}
 use Rattle.lists.proofs.Filters.{those-none}
 use Rattle.lists.proofs.Folds.{each_range}
-use Rattle.blocks.specs.Blocks.{at, blocks_on}
+use Rattle.blocks.specs.Blocks.{blocks_on}
 use Rattle.binarize.specs.Levels.{first_level, marked, any_marked, chosen, global_level, level_at}
 use Rattle.binarize.specs.Binarize.{dark_by}
 use Rattle.binarize.proofs.FlagLaws.{level-none-about}

@@ -1,8 +1,8 @@
--- The level of a block. Document 01, "From picture to bits", from "A window's level: m = mean (down) of its marked blocks' means" to "with neither the
--- level is 0". Definitions only.
+-- To be believed. The level of a block. Document 01, "From picture to bits", from "A window's level: m = mean (down) of its marked blocks' means" to "with
+-- neither the level is 0".
 use Rattle.std.specs.Prelude.{ℕ, ◌+◌, ◌*◌, ◌/◌, Bool, cond, ◌||◌, List, [], ◌∷◌, map, length, eqb, leb, ltb}
-use Rattle.lists.specs.Lists.{range, those, how_many}
-use Rattle.blocks.specs.Blocks.{mean, cells, about}
+use Rattle.lists.specs.Lists.{range, those, how_many, mean}
+use Rattle.blocks.specs.Blocks.{cells, about}
 
 -- half the sum of the means of two groups, rounded down, or m if one group is empty
 unfoldable pub midway : ℕ → List ℕ → List ℕ → ℕ
@@ -22,7 +22,7 @@ first_level ((v ∷ l) ∷ windows) other = level (v ∷ l)
 abbrev pub marked : (ℕ → ℕ) → ℕ → Bool
 marked mark i = eqb (mark i) 1
 
--- the means of the marked blocks among blocks number is
+-- the means of the marked blocks among those of the numbers is
 abbrev pub marked_means : (ℕ → ℕ) → (ℕ → ℕ) → List ℕ → List ℕ
 marked_means means mark is = map means (those (marked mark) is)
 
@@ -44,10 +44,10 @@ module _ (means edge near : ℕ → ℕ) (bw bh : ℕ) where
   abbrev pub window : (ℕ → ℕ) → ℕ → ℕ → ℕ → List ℕ
   window mark x y r = marked_means means mark (cells bw (about bw x r) (about bh y r))
 
-  -- the level of that block: the first of four windows that holds a marked block gives it, otherwise another applies
+  -- by the first of the four windows about that block that holds a marked one, or another level where none does
   unfoldable pub window_level : ℕ → ℕ → ℕ → ℕ
   window_level x y other = first_level (window edge x y 2 ∷ window edge x y 4 ∷ window near x y 2 ∷ window near x y 4 ∷ []) other
 
-  -- which is the global level
+  -- the level of that block in the picture: where no window holds one, the global level applies
   abbrev pub level_at : ℕ → ℕ → ℕ
   level_at x y = window_level x y global_level

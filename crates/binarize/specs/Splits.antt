@@ -1,11 +1,11 @@
--- The loops over a window, as folds, eight pixels at once, and what is known where they run. For contracts of inner functions, and for proofs.
+-- For inner contracts and proofs. The loops over a window, as folds, eight pixels at once, and what is known where they run.
 use Rattle.std.specs.Prelude.{ℕ, ◌+◌, ◌*◌, ◌/◌, ◌%◌, ◌^◌, ◌≤◌, ◌≡◌, Bool, cond, Option, None, Some, List, [], ◌∷◌, length, eqb, leb, ltb}
-use Rattle.lists.specs.Lists.{range, folded, those}
+use Rattle.lists.specs.Lists.{range, folded, those, sum}
 use Rattle.binary.specs.Binary.{bytes_of}
-use Rattle.binary.specs.Writing.{Written}
+use Rattle.binarize.specs.Writing.{Written}
 use Rattle.blocks.specs.declared.rect.Rect.{Rect}
-use Rattle.blocks.specs.Blocks.{sum, blocks_refusal}
-use Rattle.binarize.specs.declared.rows.Writer.{Writer}
+use Rattle.blocks.specs.Blocks.{blocks_refusal}
+use Rattle.binarize.specs.declared.writing.Writer.{Writer}
 use Rattle.binarize.specs.declared.split.Split.{Split}
 use Rattle.binarize.specs.Levels.{level}
 
@@ -24,27 +24,27 @@ pub record Tally : Type 0 where
 abbrev pub tally_of : Split → Tally
 tally_of t = record { low = t.low; lows = t.lows; high = t.high; highs = t.highs }
 
--- one mean more
+-- one mean more, among those up to m or those above
 abbrev pub with_mean : ℕ → Tally → ℕ → Tally
 with_mean m t v =
     cond (leb v m) (record { low = t.low + v; lows = t.lows + 1; high = t.high; highs = t.highs })
     (record { low = t.low; lows = t.lows; high = t.high + v; highs = t.highs + 1 })
 
--- one block more, which counts if it is marked
+-- one block more, of mean v, which counts if its mark is 1
 unfoldable pub with_block : ℕ → Tally → ℕ → ℕ → Tally
 with_block m t v mark = cond (eqb mark 1) (with_mean m t v) t
 
--- that with number i
-unfoldable pub block_step : (ℕ → ℕ) → (ℕ → ℕ) → ℕ → Tally → ℕ → Tally
-block_step means mark m t i = with_block m t (means i) (mark i)
+-- block number i more, which counts if it is marked
+unfoldable pub split_block : (ℕ → ℕ) → (ℕ → ℕ) → ℕ → Tally → ℕ → Tally
+split_block means mark m t i = with_block m t (means i) (mark i)
 
--- that in column x, where the row begins at number `from`
-unfoldable pub column_step : (ℕ → ℕ) → (ℕ → ℕ) → ℕ → ℕ → Tally → ℕ → Tally
-column_step means mark m from t x = block_step means mark m t (from + x)
+-- the block in column x more, where its row begins at block number `from`
+unfoldable pub split_column : (ℕ → ℕ) → (ℕ → ℕ) → ℕ → ℕ → Tally → ℕ → Tally
+split_column means mark m from t x = split_block means mark m t (from + x)
 
--- columns a to b of row y
-unfoldable pub row_step : (ℕ → ℕ) → (ℕ → ℕ) → ℕ → ℕ → ℕ → ℕ → Tally → ℕ → Tally
-row_step means mark m bw a b t y = folded (column_step means mark m (y * bw)) t (range a b)
+-- the blocks of row y in the columns from a on below b more, where a row has bw blocks
+unfoldable pub split_row : (ℕ → ℕ) → (ℕ → ℕ) → ℕ → ℕ → ℕ → ℕ → Tally → ℕ → Tally
+split_row means mark m bw a b t y = folded (split_column means mark m (y * bw)) t (range a b)
 
 -- no block yet
 abbrev pub no_block : Tally
@@ -59,7 +59,7 @@ pub record Tallied (l : List ℕ) (m : ℕ) (t : Tally) : Type 0 where
   pub total : t.low + t.high ≡ sum l
   pub count : t.lows + t.highs ≡ length l
 
--- a window lies within rows of w, of which a list of len values has all, and there are at most 512 × 512
+-- a window lies in rows of w blocks, of which a list of len values has one for each, and there are at most 512 × 512
 pub record InGrid (len w : ℕ) (r : Rect) : Type 0 where
   pub cols : r.right ≤ w
   pub all : r.bottom * w ≤ len
@@ -79,6 +79,6 @@ abbrev pub rest_of_eight : ℕ → ℕ → ℕ → ℕ
 rest_of_eight n acc b = (acc * 256 + b) % 2 ^ (n % 8)
 
 -- what black and white conversion needs is there: what `block_values` needs, and room for the bits
-pub record Passed (len w h room : ℕ) (work : List ℕ) : Type 0 where
+pub record BinarizePassed (len w h room : ℕ) (work : List ℕ) : Type 0 where
   pub values : blocks_refusal len w h work ≡ 0
   pub bits : bytes_of (w * h) ≤ room

@@ -1,8 +1,7 @@
 // Columns without marks: the windows about most blocks of most pictures hold no marked one, and their level is the global one.
 ghost use Rattle.std.specs.Prelude.{◌≡◌, ◌==◌, ◌+◌, ◌-◌, ◌≤◌, ◌<◌, min, length};
 ghost use Rattle.std.specs.List.{list_all};
-ghost use Rattle.lists.specs.Lists.{filled};
-ghost use Rattle.blocks.specs.Blocks.{at};
+ghost use Rattle.lists.specs.Lists.{filled, at};
 ghost use Rattle.binarize.specs.Levels.{window_level};
 ghost use Rattle.binarize.specs.Flags.{flagged, Flagged};
 

@@ -1,11 +1,11 @@
 // Levels of windows of blocks.
 ghost use Rattle.std.specs.Prelude.{◌≡◌, ◌==◌, cond, ◌+◌, ◌-◌, ◌*◌, ◌≤◌, ◌<◌, length, ltb};
 ghost use Rattle.std.specs.List.{list_any};
-ghost use Rattle.lists.specs.Lists.{folded};
-ghost use Rattle.blocks.specs.Blocks.{at, cells, about};
+ghost use Rattle.lists.specs.Lists.{folded, at};
+ghost use Rattle.blocks.specs.Blocks.{cells, about};
 ghost use Rattle.blocks.specs.Rects.{cells_of};
 ghost use Rattle.binarize.specs.Levels.{marked_means, any_marked, window_level, global_level};
-ghost use Rattle.binarize.specs.Splits.{level_of, block_step, row_step, no_block, tally_of, InGrid};
+ghost use Rattle.binarize.specs.Splits.{level_of, split_block, split_row, no_block, tally_of, InGrid};
 
 use super::grid::Grid;
 use super::split::Split;
@@ -20,13 +20,13 @@ struct Marked<'a> {
 }
 
 impl Marked<'_> {
-    // The blocks of a window's row y beside those in t.
-    #[tactic(auto, using(lists::proofs::Folds::fold_more, lists::proofs::Folds::fold_end), unfolding(crate::specs::Splits::row_step, crate::specs::Splits::column_step, crate::specs::Splits::block_step))]
+    // The blocks of a window's row y beside those that t counts, split at `bound`.
+    #[tactic(auto, using(lists::proofs::Folds::fold_more, lists::proofs::Folds::fold_end), unfolding(crate::specs::Splits::split_row, crate::specs::Splits::split_column, crate::specs::Splits::split_block))]
     fn row_split(self, window: Rect, y: usize, bound: u8, t: Split) -> Split
         requires { (y * self.width + window.right ≤ length self.means.now) × (y * self.width + window.right ≤ length self.marks.now)
             × (t.lows + t.highs + (window.right - window.left) ≤ 8388607) }
         ensures counted { let m = self.entry in
-            tally_of result ≡ row_step (at m.means.now) (at m.marks.now) bound m.width window.left window.right (tally_of t) y }
+            tally_of result ≡ split_row (at m.means.now) (at m.marks.now) bound m.width window.left window.right (tally_of t) y }
         ensures few { result.lows + result.highs ≤ t.lows + t.highs + (window.right - window.left) }
     {
         let from = y * self.width;
@@ -37,12 +37,12 @@ impl Marked<'_> {
         r
     }
 
-    // The blocks in a window.
-    #[tactic(auto, using(lists::proofs::Folds::fold_more, lists::proofs::Numbers::next_row), unfolding(crate::specs::Splits::row_step))]
+    // The blocks in a window, split at `bound`.
+    #[tactic(auto, using(lists::proofs::Folds::fold_more, lists::proofs::Numbers::next_row), unfolding(crate::specs::Splits::split_row))]
     fn window_split(self, window: Rect, bound: u8) -> Split
         requires { InGrid (length self.means.now) self.width window × InGrid (length self.marks.now) self.width window }
         ensures { let m = self.entry in
-            tally_of result ≡ folded (block_step (at m.means.now) (at m.marks.now) bound) no_block (cells_of m.width window) }
+            tally_of result ≡ folded (split_block (at m.means.now) (at m.marks.now) bound) no_block (cells_of m.width window) }
     {
         let mut t = Split::new();
         for y in window.top..window.bottom {
@@ -81,7 +81,8 @@ fn level_about(grid: Grid, marks: &[u8], x: usize, y: usize, radius: usize) -> O
     marked.level_in(window)
 }
 
-// The marks of a kind of window: the first two kinds go by the edge marks, the others by the near marks. Of two lent slices, as document 01 names it.
+// The marks of a kind of window: the first two kinds go by the edge marks, the others by the near marks. It answers one of two lent slices, the form that
+// document 01 names.
 fn marks_of<'a>(edges: &'a [u8], nears: &'a [u8], kind: usize) -> &'a [u8]
     ensures { result.now ≡ cond (ltb kind 2) edges.now nears.now }
 {
@@ -90,7 +91,7 @@ fn marks_of<'a>(edges: &'a [u8], nears: &'a [u8], kind: usize) -> &'a [u8]
 
 // The level of the block in column x and row y: the first of four windows that holds a marked block gives it, otherwise it is the global level.
 // The loop yields its level by `break`, the form that document 01 names.
-// It stays a call: most blocks need no window, and inlined its bounds are worked out for each of them, which takes 4 % more instructions where few are marked.
+// It stays a call: most blocks need no window, and inlined its bounds are worked out for each block, which takes 4 % more instructions where few are marked.
 #[tactic(auto, using(crate::proofs::LevelLaws::kind_steps))]
 #[inline(never)]
 pub fn block_level(grid: Grid, x: usize, y: usize, global: u8) -> u8
@@ -117,7 +118,7 @@ fn any_mark(marks: &[u8]) -> bool
     marks.iter().any(|mark| *mark == 1)
 }
 
-// The edge marks if any of n blocks has one, otherwise the near marks. Of two lent slices too.
+// The edge marks if any of n blocks has one, otherwise the near marks. It answers one of two lent slices too.
 fn chosen<'a>(edges: &'a [u8], nears: &'a [u8], n: usize) -> &'a [u8]
     requires { n ≤ length edges.now }
     ensures { result.now ≡ cond (any_marked (at edges.now) n) edges.now nears.now }

@@ -3,21 +3,20 @@
 
 ghost use Rattle.std.specs.Prelude.{◌≡◌, length};
 ghost use Rattle.lcr_core.specs.Outcome.{number_of};
-ghost use Rattle.blocks.specs.Blocks.{mean_at, least_at, greatest_at, edge_at, near_at, blocks_after};
-ghost use Rattle.blocks.specs.Work.{lengths, HoldsSame, HasValues};
+ghost use Rattle.blocks.specs.Work.{lengths, SameBlocks, HasValues};
 ghost use Rattle.binarize.specs.Binarize.{binarize_refusal, dark_after};
-ghost use Rattle.binarize.specs.Splits.{Passed};
+ghost use Rattle.binarize.specs.Splits.{BinarizePassed};
 
 use blocks::picture::{GrayPicture, LentGray};
 use blocks::{Blocks, block_values, check_blocks};
 use lcr_core::Refusal;
-use rows::put_picture;
+use writing::put_picture;
 
 mod blank;
 mod grid;
 mod levels;
-mod rows;
 mod split;
+mod writing;
 
 // What `binarize` refuses, with `room` bytes for the bits.
 pub fn check_binarize(gray: LentGray<'_>, blocks: &Blocks<'_>, room: usize) -> Result<(), Refusal>
@@ -32,8 +31,8 @@ pub fn check_binarize(gray: LentGray<'_>, blocks: &Blocks<'_>, room: usize) -> R
 
 // Black and white conversion of a picture that passed the checks, so that `block_values` does not refuse it.
 fn binarize_checked(gray: LentGray<'_>, blocks: &mut Blocks<'_>, bits: &mut [u8])
-    requires { Passed (length gray.gray.now) gray.width gray.height (length bits.old) (lengths blocks.old) }
-    ensures same { HoldsSame blocks.old blocks.new }
+    requires { BinarizePassed (length gray.gray.now) gray.width gray.height (length bits.old) (lengths blocks.old) }
+    ensures same { SameBlocks blocks.old blocks.new }
     ensures values { let p = gray.entry in HasValues 0 p.gray.now p.width p.height blocks.old blocks.new }
     ensures bits { let p = gray.entry in bits.new ≡ dark_after 0 p.gray.now p.width p.height bits.old }
 {
@@ -50,17 +49,8 @@ fn binarize_checked(gray: LentGray<'_>, blocks: &mut Blocks<'_>, bits: &mut [u8]
 #[tactic(auto, using(crate::proofs::Refusals::passes))]
 pub fn binarize(gray: LentGray<'_>, blocks: &mut Blocks<'_>, bits: &mut [u8]) -> Result<(), Refusal>
     ensures refusal { let p = gray.entry in number_of result ≡ binarize_refusal (length p.gray.now) p.width p.height (length bits.old) (lengths blocks.old) }
-    ensures same { HoldsSame blocks.old blocks.new }
-    ensures means { let p = gray.entry in
-        blocks.new.means.now ≡ blocks_after (number_of result) p.width p.height (mean_at p.gray.now p.width p.height) blocks.old.means.now }
-    ensures least { let p = gray.entry in
-        blocks.new.least.now ≡ blocks_after (number_of result) p.width p.height (least_at p.gray.now p.width p.height) blocks.old.least.now }
-    ensures greatest { let p = gray.entry in
-        blocks.new.greatest.now ≡ blocks_after (number_of result) p.width p.height (greatest_at p.gray.now p.width p.height) blocks.old.greatest.now }
-    ensures edges { let p = gray.entry in
-        blocks.new.edges.now ≡ blocks_after (number_of result) p.width p.height (edge_at p.gray.now p.width p.height) blocks.old.edges.now }
-    ensures nears { let p = gray.entry in
-        blocks.new.nears.now ≡ blocks_after (number_of result) p.width p.height (near_at p.gray.now p.width p.height) blocks.old.nears.now }
+    ensures same { SameBlocks blocks.old blocks.new }
+    ensures values { let p = gray.entry in HasValues (number_of result) p.gray.now p.width p.height blocks.old blocks.new }
     ensures bits { let p = gray.entry in bits.new ≡ dark_after (number_of result) p.gray.now p.width p.height bits.old }
 {
     check_binarize(gray, blocks, bits.len())?;

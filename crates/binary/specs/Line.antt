@@ -1,5 +1,5 @@
--- A line of a bit picture, as a row or a column, and its runs. Document 02, N7: "The run count must also tell how it ended: colour change, picture edge or
--- limit .. A run of exactly the limit followed by a change of colour or the edge ended by that." Definitions only.
+-- To be believed. A line of a bit picture, as a row or a column, and its runs. Document 02, N7: "The run count must also tell how it ended: colour change,
+-- picture edge or limit .. A run of exactly the limit followed by a change of colour or the edge ended by that."
 use Rattle.std.specs.Prelude.{ℕ, zero, suc, ◌+◌, ◌-◌, ◌*◌, min, Bool, cond, List, eqb, leb}
 use Rattle.std.specs.Bool.{beq}
 use Rattle.binary.specs.Binary.{dark_bit}
@@ -7,7 +7,7 @@ use Rattle.binary.specs.declared.line.End.{End}
 use Rattle.binary.specs.declared.line.End.TheVariants.{Change, Edge, Limit}
 use Rattle.binary.specs.declared.line.Run.{Run}
 
--- pixel k of a line
+-- pixel k of a line that starts at pixel number `start` and goes on by `stride` numbers
 abbrev pub pixel : List ℕ → ℕ → ℕ → ℕ → Bool
 pixel bits start stride k = dark_bit bits (start + k * stride)
 

@@ -6,12 +6,12 @@ use Prim.Native.Nat.{ℕ, ◌+◌, ◌-◌, ◌*◌, ◌/◌, ◌%◌, ◌≤◌
 use native.Mathlib.Nat.{mul_comm, add-mul-div_left}
 use native.Mathlib.Omega.{arith}
 use lib.ListN.{length, length-map}
-use Rattle.lists.specs.Lists.{Each, folded}
+use Rattle.lists.specs.Lists.{Each, folded, sum, mean, least, greatest, at}
 use Rattle.lists.proofs.Numbers.{mul_bound}
 use Rattle.lists.proofs.Filters.{each_map}
 use Rattle.lists.proofs.Folds.{map_same, each_of_map}
 use Rattle.lcr_core.specs.Passed.{Sides}
-use Rattle.blocks.specs.Blocks.{sum, mean, least, greatest, at, cells, blocks_on, blocks_in, pixels_of, mark, neighbours, block_at, mean_at, least_at, greatest_at, edge_at, near_at}
+use Rattle.blocks.specs.Blocks.{cells, blocks_on, blocks_in, block_pixels, mark, neighbours, block_at, mean_at, least_at, greatest_at, edge_at, near_at}
 use Rattle.blocks.proofs.Grids.{cells-within, length-cells, place, block_size}
 
 -- ---- values of a list
@@ -80,25 +80,25 @@ least_small a (x ∷ l) = omega (arith, least_small (min a x) l)
 
 -- ---- the blocks of the gray pictures g and g', of which g' is k brighter
 module _ (k : ℕ) (g g' : List ℕ) (w h : ℕ) (s : Sides w h) (brighter : (i : ℕ) → i < w * h → at g' i ≡ at g i + k) (bytes : (i : ℕ) → i < w * h → at g i + k ≤ 255) where
-  pixels : (i : ℕ) → Each (λ j. j < w * h) (cells w (pixels_of w (i % blocks_on w)) (pixels_of h (i / blocks_on w)))
+  pixels : (i : ℕ) → Each (λ j. j < w * h) (cells w (block_pixels w (i % blocks_on w)) (block_pixels h (i / blocks_on w)))
   pixels i =
       rw (mul_comm w h)
       (cells-within w h (i % blocks_on w * 8) (min w (i % blocks_on w * 8 + 8)) (i / blocks_on w * 8) (min h (i / blocks_on w * 8 + 8)) (omega arith) (omega arith))
 
   block_more : (i : ℕ) → block_at g' w h i ≡ more k (block_at g w h i)
   unfolding block_at
-  block_more i = map_more k (w * h) (at g) (at g') brighter (cells w (pixels_of w (i % blocks_on w)) (pixels_of h (i / blocks_on w))) (pixels i)
+  block_more i = map_more k (w * h) (at g) (at g') brighter (cells w (block_pixels w (i % blocks_on w)) (block_pixels h (i / blocks_on w))) (pixels i)
 
   block_bytes : (i : ℕ) → Each (λ v. v + k ≤ 255) (block_at g w h i)
   unfolding block_at
   block_bytes i =
-      let is = cells w (pixels_of w (i % blocks_on w)) (pixels_of h (i / blocks_on w)) in
+      let is = cells w (block_pixels w (i % blocks_on w)) (block_pixels h (i / blocks_on w)) in
       each_of_map (λ v. v + k ≤ 255) (at g) is (each_map (λ j. j < w * h) (λ j. at g j + k ≤ 255) bytes is (pixels i))
 
   block_some : (i : ℕ) → i < blocks_in w h → 0 < length (block_at g w h i)
   unfolding block_at
   block_some i l =
-      let is = cells w (pixels_of w (i % blocks_on w)) (pixels_of h (i / blocks_on w)) in
+      let is = cells w (block_pixels w (i % blocks_on w)) (block_pixels h (i / blocks_on w)) in
       let e = length-map is (at g) in
       let n = length-cells w (i % blocks_on w * 8) (min w (i % blocks_on w * 8 + 8)) (i / blocks_on w * 8) (min h (i / blocks_on w * 8 + 8)) in
       omega (arith, e, n, (block_size w h i s l).0)

@@ -7,11 +7,11 @@ use native.Mathlib.Omega.{arith}
 use lib.Dec.{ltb}
 use borrow.Author.Tests.{lt-ltb, le-ltb, ltb-true, ltb-false}
 use Rattle.std.specs.Int.{from_bool}
-use Rattle.lists.specs.Lists.{filled}
+use Rattle.lists.specs.Lists.{filled, least, greatest, at}
 use Rattle.lists.proofs.Tabulate.{filled_same, get_or-filled}
 use Rattle.lists.proofs.Filters.{each_map}
 use Rattle.lists.proofs.Folds.{map_same}
-use Rattle.blocks.specs.Blocks.{least, greatest, at, blocks_on, blocks_in, neighbours, mark, edge_of, near_of, least_at, greatest_at, edge_at, near_at}
+use Rattle.blocks.specs.Blocks.{blocks_on, blocks_in, neighbours, mark, edge_mark, near_mark, least_at, greatest_at, edge_at, near_at}
 use Rattle.blocks.proofs.Grids.{place, cells-within}
 
 -- the greatest value exceeds the least and 24 where the spread exceeds 24
@@ -36,12 +36,12 @@ near_same f l d bw bh i e h =
     (cells-within bw bh (i % bw - 1) (min bw (i % bw + 1 + 1)) (i / bw - 1) (min bh (i / bw + 1 + 1)) (omega arith) (omega arith)))
 
 module _ (g : List ℕ) (w h : ℕ) (lo hi lo₀ hi₀ : List ℕ) (el : lo ≡ filled (blocks_in w h) (least_at g w h) lo₀) (eh : hi ≡ filled (blocks_in w h) (greatest_at g w h) hi₀) where
-  pub edges_same : (d : List ℕ) → filled (blocks_in w h) (edge_of (at lo) (at hi)) d ≡ filled (blocks_in w h) (edge_at g w h) d
-  edges_same d =
-      filled_same (blocks_in w h) (edge_of (at lo) (at hi)) (edge_at g w h) d
+  pub written_edges : (d : List ℕ) → filled (blocks_in w h) (edge_mark (at lo) (at hi)) d ≡ filled (blocks_in w h) (edge_at g w h) d
+  written_edges d =
+      filled_same (blocks_in w h) (edge_mark (at lo) (at hi)) (edge_at g w h) d
       (λ k l. ap₂ mark (at-filled (blocks_in w h) (least_at g w h) lo lo₀ el k l) (at-filled (blocks_in w h) (greatest_at g w h) hi hi₀ eh k l))
 
-  pub nears_same : (d : List ℕ) → filled (blocks_in w h) (near_of (at lo) (at hi) (blocks_on w) (blocks_on h)) d ≡ filled (blocks_in w h) (near_at g w h) d
-  nears_same d =
-      filled_same (blocks_in w h) (near_of (at lo) (at hi) (blocks_on w) (blocks_on h)) (near_at g w h) d
+  pub written_nears : (d : List ℕ) → filled (blocks_in w h) (near_mark (at lo) (at hi) (blocks_on w) (blocks_on h)) d ≡ filled (blocks_in w h) (near_at g w h) d
+  written_nears d =
+      filled_same (blocks_in w h) (near_mark (at lo) (at hi) (blocks_on w) (blocks_on h)) (near_at g w h) d
       (λ k l. ap₂ (λ (x y : List ℕ). mark (least x) (greatest y)) (near_same (least_at g w h) lo lo₀ (blocks_on w) (blocks_on h) k el l) (near_same (greatest_at g w h) hi hi₀ (blocks_on w) (blocks_on h) k eh l))

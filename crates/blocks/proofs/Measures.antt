@@ -3,10 +3,10 @@ use mathlib.Core.Path.{◌≡◌, refl, sym, ap, ap₂, ◌∙◌}
 use mathlib.Core.List.{List, [], ◌∷◌, map}
 use Prim.Native.Nat.{ℕ, ◌+◌, ◌-◌, ◌*◌, ◌/◌, min, max}
 use lib.ListN.{length-map}
-use Rattle.lists.specs.Lists.{folded}
+use Rattle.lists.specs.Lists.{folded, mean, least, greatest, at}
 use Rattle.blocks.specs.declared.rect.Rect.{Rect}
 use Rattle.blocks.specs.declared.stats.Stats.{Stats}
-use Rattle.blocks.specs.Blocks.{mean, least, greatest, at, block_at, mean_at, least_at, greatest_at}
+use Rattle.blocks.specs.Blocks.{block_at, mean_at, least_at, greatest_at}
 use Rattle.blocks.specs.Rects.{cells_of, IsBlock}
 use Rattle.blocks.specs.Steps.{cell_step, no_value}
 use Rattle.blocks.proofs.Grids.{length-cells}

@@ -1,14 +1,14 @@
--- The five work slices of a picture's blocks: their lengths, that the same are held, and what they hold. Definitions only.
+-- To be believed. The five work slices of a picture's blocks: their lengths, that the same are held, and what they hold.
 use Rattle.std.specs.Prelude.{ℕ, ◌≡◌, List, [], ◌∷◌, length}
 use Rattle.blocks.specs.declared.Blocks.{Blocks}
 use Rattle.blocks.specs.Blocks.{mean_at, least_at, greatest_at, edge_at, near_at, blocks_after}
 
--- how many bytes each has
+-- how many bytes each of the five has
 abbrev pub lengths : Blocks → List ℕ
 lengths b = length b.means.now ∷ length b.least.now ∷ length b.greatest.now ∷ length b.edges.now ∷ length b.nears.now ∷ []
 
 -- the same slices are held, of the same lengths
-pub record HoldsSame (old new : Blocks) : Type 0 where
+pub record SameBlocks (old new : Blocks) : Type 0 where
   pub means : new.means.ghost_name ≡ old.means.ghost_name
   pub least : new.least.ghost_name ≡ old.least.ghost_name
   pub greatest : new.greatest.ghost_name ≡ old.greatest.ghost_name

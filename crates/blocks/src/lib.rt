@@ -4,8 +4,8 @@
 ghost use Rattle.std.specs.Prelude.{◌≡◌, ◌≤◌, length, nat_lt};
 ghost use Rattle.std.specs.List.{list_any};
 ghost use Rattle.lcr_core.specs.Outcome.{number_of};
-ghost use Rattle.blocks.specs.Blocks.{mean_at, least_at, greatest_at, edge_at, near_at, blocks_in, blocks_refusal, blocks_after};
-ghost use Rattle.blocks.specs.Work.{lengths, HoldsSame, HasValues};
+ghost use Rattle.blocks.specs.Blocks.{blocks_in, blocks_refusal};
+ghost use Rattle.blocks.specs.Work.{lengths, SameBlocks, HasValues};
 
 use lcr_core::{Refusal, check_sides};
 use marks::{edge_marks, near_marks};
@@ -61,11 +61,11 @@ pub fn check_blocks(gray: LentGray<'_>, blocks: &Blocks<'_>) -> Result<(), Refus
 }
 
 // The values and marks of a picture, into work slices that have room.
-#[tactic(auto, using(crate::proofs::Marking::edges_same, crate::proofs::Marking::nears_same))]
+#[tactic(auto, using(crate::proofs::Marking::written_edges, crate::proofs::Marking::written_nears))]
 fn values_checked(picture: GrayPicture, blocks: &mut Blocks<'_>)
     requires { let n = blocks_in picture.width picture.height in let b = blocks.old in
         (n ≤ length b.means.now) × (n ≤ length b.least.now) × (n ≤ length b.greatest.now) × (n ≤ length b.edges.now) × (n ≤ length b.nears.now) }
-    ensures same { HoldsSame blocks.old blocks.new }
+    ensures same { SameBlocks blocks.old blocks.new }
     ensures values { let p = picture.entry in HasValues 0 p.gray.now p.width p.height blocks.old blocks.new }
 {
     let bw = picture.columns();
@@ -85,17 +85,8 @@ fn values_checked(picture: GrayPicture, blocks: &mut Blocks<'_>)
 #[tactic(auto, using(crate::proofs::Refusals::passes))]
 pub fn block_values(gray: LentGray<'_>, blocks: &mut Blocks<'_>) -> Result<(), Refusal>
     ensures refusal { let p = gray.entry in number_of result ≡ blocks_refusal (length p.gray.now) p.width p.height (lengths blocks.old) }
-    ensures same { HoldsSame blocks.old blocks.new }
-    ensures means { let p = gray.entry in
-        blocks.new.means.now ≡ blocks_after (number_of result) p.width p.height (mean_at p.gray.now p.width p.height) blocks.old.means.now }
-    ensures least { let p = gray.entry in
-        blocks.new.least.now ≡ blocks_after (number_of result) p.width p.height (least_at p.gray.now p.width p.height) blocks.old.least.now }
-    ensures greatest { let p = gray.entry in
-        blocks.new.greatest.now ≡ blocks_after (number_of result) p.width p.height (greatest_at p.gray.now p.width p.height) blocks.old.greatest.now }
-    ensures edges { let p = gray.entry in
-        blocks.new.edges.now ≡ blocks_after (number_of result) p.width p.height (edge_at p.gray.now p.width p.height) blocks.old.edges.now }
-    ensures nears { let p = gray.entry in
-        blocks.new.nears.now ≡ blocks_after (number_of result) p.width p.height (near_at p.gray.now p.width p.height) blocks.old.nears.now }
+    ensures same { SameBlocks blocks.old blocks.new }
+    ensures values { let p = gray.entry in HasValues (number_of result) p.gray.now p.width p.height blocks.old blocks.new }
 {
     check_blocks(gray, blocks)?;
     let picture = GrayPicture {

@@ -15,7 +15,7 @@ pub struct Stats {
     pub greatest: u8,
 }
 
-// One value more.
+// One value more than those in t.
 fn with_value(t: Stats, v: u8) -> Stats
     requires { t.sum ≤ 65280 }
     ensures { (result ≡ with_value t v) × (result.sum ≤ t.sum + 255) }
@@ -27,7 +27,7 @@ fn with_value(t: Stats, v: u8) -> Stats
     }
 }
 
-// Columns a to b of the row that begins at number `from`.
+// The values in the columns from a on below b, of the row that begins at number `from`, beside those in t.
 #[tactic(auto, using(lists::proofs::Folds::fold_more, lists::proofs::Folds::fold_end), unfolding(crate::specs::Steps::column_step, crate::specs::Steps::cell_step))]
 fn row_stats(s: &[u8], from: usize, a: usize, b: usize, t: Stats) -> Stats
     requires { (a ≤ b) × (from + b ≤ length s.now) × (t.sum + 255 * (b - a) ≤ 65280) }
@@ -82,7 +82,7 @@ pub struct Values {
     pub greatest: u8,
 }
 
-// Those of block number i.
+// The values of block number i.
 #[tactic(auto, using(lists::proofs::Numbers::mean_small))]
 fn values_of(picture: GrayPicture, i: usize) -> Values
     requires { i < blocks_in picture.width picture.height }
@@ -99,7 +99,7 @@ fn values_of(picture: GrayPicture, i: usize) -> Values
     }
 }
 
-// Those of every block. Three slices here, and two and one for the marks, in place of `Blocks`: over that each clause would also say which other fields stay.
+// The values of every block. It is lent three slices and not a `Blocks`, of which the contract would also have to say that the other fields stay.
 #[tactic(auto, using(lists::proofs::Tabulate::filled_none, lists::proofs::Tabulate::filled_step))]
 pub fn all_values(picture: GrayPicture, means: &mut [u8], least: &mut [u8], greatest: &mut [u8])
     requires { let n = blocks_in picture.width picture.height in (n ≤ length means.old) × (n ≤ length least.old) × (n ≤ length greatest.old) }

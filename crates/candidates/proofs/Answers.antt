@@ -10,27 +10,27 @@ use Rattle.lcr_core.specs.Outcome.{Check, number_of}
 use Rattle.lcr_core.specs.declared.Refusal.{Refusal}
 use Rattle.lcr_core.proofs.Answers.{number_checked, checked_passed, refused_by}
 use Rattle.binary.specs.Refusal.{bits_checks}
-use Rattle.geometry.specs.declared.Finder.{Finder}
+use Rattle.lcr_core.specs.declared.finder.Finder.{Finder}
 use Rattle.finders.specs.declared.Finders.{Finders}
-use Rattle.finders.specs.Answer.{table_of as finders_table, find_checks, find_refusal, finders_of, answer_of}
+use Rattle.finders.specs.Answer.{finders_table, find_checks, find_refusal, finders_of, answer_of}
 use Rattle.finders.specs.Search.{found}
 use Rattle.finders.proofs.Outcomes.{answer_table, answer_refusal}
 use Rattle.ranking.specs.declared.Eight.{Eight}
-use Rattle.ranking.specs.Ranking.{in_use, eight_of}
+use Rattle.ranking.specs.Tables.{in_use, eight_of}
 use Rattle.lists.proofs.Padded.{take-padded}
 use Rattle.candidates.specs.Detection.{zero_detection}
 use Rattle.candidates.specs.declared.Detection.{Detection}
 use Rattle.candidates.specs.declared.Detections.{Detections}
-use Rattle.candidates.specs.Candidates.{detections_of, table_of, table_in, first, from_answer, detect_answer, detect_first}
+use Rattle.candidates.specs.Candidates.{detections_of, detections_table, table_in, first_detection, from_answer, detect_answer, detect_first}
 use Rattle.candidates.proofs.Tables.{detections_in_lem}
 
 -- ---- the answer of a lent list
 pub from-eight : (bits : List ℕ) (w h : ℕ) (fs : List Finder) (t : Eight) → t ≡ eight_of fs → from_answer bits w h (in_use t) ≡ from_answer bits w h fs
 unfolding from_answer
-from-eight bits w h fs t e = ap (λ (ds : List Detection). checked (bits_checks (length bits) w h) (table_of ds)) (detections_in_lem bits w h fs t e)
+from-eight bits w h fs t e = ap (λ (ds : List Detection). checked (bits_checks (length bits) w h) (detections_table ds)) (detections_in_lem bits w h fs t e)
 
 -- ---- what holds of no detection and of a table holds of what is answered with that table
-pub in_checked : (P : Detections → Type 0) (cs : List Check) (t : Detections) → P (table_of []) → P t → P (table_in (checked cs t))
+pub in_checked : (P : Detections → Type 0) (cs : List Check) (t : Detections) → P (detections_table []) → P t → P (table_in (checked cs t))
 in_checked P [] t none some = some
 in_checked P (c ∷ cs) t none some = go c.refuses (in_checked P cs t none some)
   where
@@ -44,10 +44,10 @@ module _ (bits : List ℕ) (w h : ℕ) where
   checks = find_checks (length bits) w h (found bits w h)
 
   abbrev table : Detections
-  table = table_of (detections_of bits w h (finders_of bits w h))
+  table = detections_table (detections_of bits w h (finders_of bits w h))
 
   abbrev one : Option Detection
-  one = first (detections_of bits w h (finders_of bits w h))
+  one = first_detection (detections_of bits w h (finders_of bits w h))
 
   -- its number is the search's
   pub detect_number : number_of (detect_answer bits w h) ≡ find_refusal bits w h
@@ -55,11 +55,11 @@ module _ (bits : List ℕ) (w h : ℕ) where
   detect_number = number_checked checks table
 
   pub searched : (found : Finders) (t : Eight) → Ok found ≡ answer_of bits w h → ((gs : List Finder) → found ≡ finders_table gs → t ≡ eight_of gs)
-      → (r : Detections) → r ≡ table_of (detections_of bits w h (in_use t)) → Ok r ≡ detect_answer bits w h
+      → (r : Detections) → r ≡ detections_table (detections_of bits w h (in_use t)) → Ok r ≡ detect_answer bits w h
   unfolding detect_answer find_refusal
   searched found t e k r g =
       let f = answer_table bits w h found e in
-      ap Ok (g ∙ ap table_of (detections_in_lem bits w h (finders_of bits w h) t (k (finders_of bits w h) f.1))) ∙ checked_passed checks table (sym f.0)
+      ap Ok (g ∙ ap detections_table (detections_in_lem bits w h (finders_of bits w h) t (k (finders_of bits w h) f.1))) ∙ checked_passed checks table (sym f.0)
 
   pub search_refused : (answer : Result Detections Refusal) (r : Refusal) → IsErrAnd answer (λ e. e ≡ r) → Err r ≡ answer_of bits w h → answer ≡ detect_answer bits w h
   unfolding detect_answer find_refusal
@@ -71,14 +71,14 @@ module _ (bits : List ℕ) (w h : ℕ) where
   first_refused answer r i e = refused_by answer r i checks one (ap number_of e ∙ number_checked checks table)
 
   -- the table that is answered
-  answered : (t : Detections) → Ok t ≡ detect_answer bits w h → (0 ≡ find_refusal bits w h) × (t ≡ table_of (detections_of bits w h (finders_of bits w h)))
+  answered : (t : Detections) → Ok t ≡ detect_answer bits w h → (0 ≡ find_refusal bits w h) × (t ≡ detections_table (detections_of bits w h (finders_of bits w h)))
   unfolding detect_answer find_refusal
   answered t e =
       let n : 0 ≡ find_refusal bits w h = ap number_of e ∙ number_checked checks table in
       let x = checked_passed checks table n in
       (n, cc (e, x))
 
-  first_is : (ds : List Detection) → slice_get ds 0 ≡ first ds
+  first_is : (ds : List Detection) → slice_get ds 0 ≡ first_detection ds
   first_is [] = refl
   first_is (x ∷ ds) = refl
 

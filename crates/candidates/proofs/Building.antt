@@ -12,9 +12,9 @@ use Rattle.geometry.specs.Build.{built_fit}
 use Rattle.geometry.specs.Estimate.{estimate_of}
 use Rattle.geometry.specs.Score.{mean_of}
 use Rattle.lcr_core.specs.declared.Refusal.{Refusal}
-use Rattle.transform.specs.declared.Point.{Point}
+use Rattle.lcr_core.specs.declared.point.Point.{Point}
 use Rattle.alignment.specs.declared.Refined.{Refined}
-use Rattle.alignment.specs.Alignment.{locate_of, refine_of}
+use Rattle.alignment.specs.Alignment.{locate_answer, refine_answer}
 use Rattle.candidates.specs.declared.Detection.{Detection}
 use Rattle.candidates.specs.Detection.{unrefined, fit_with, marker_by, refined_from, build_with, build_of}
 
@@ -33,7 +33,7 @@ module _ (bits : List ℕ) (w h : ℕ) (c : Corners) (s : Float) (v : Version) (
   unfolding build_with
   rough_none f = at_none _ _ (roughly ∙ f)
 
-  module _ (t : Transform) (et : rough ≡ Some t) (marker : Option Point) (el : marker ≡ result_unwrap_or (locate_of bits w h t v.0 m) None) (built : Option Transform) (eb : built ≡ built_fit c marker v.0) where
+  module _ (t : Transform) (et : rough ≡ Some t) (marker : Option Point) (el : marker ≡ result_unwrap_or (locate_answer bits w h t v.0 m) None) (built : Option Transform) (eb : built ≡ built_fit c marker v.0) where
     same_fit : fit_with bits w h c (marker_by bits w h c t v.0) v.0 ≡ built
     same_fit = rw (eb, el, em)
 
@@ -45,7 +45,7 @@ module _ (bits : List ℕ) (w h : ℕ) (c : Corners) (s : Float) (v : Version) (
     abbrev made : Refined → Float → Option Detection
     made r x = Some (record { finders = c; marker = r.marker; version = v; transform = r.transform; score = s; mean = x })
 
-    pub complete : (u : Transform) → built ≡ Some u → (r : Refined) → r ≡ result_unwrap_or (refine_of bits w h c v.0 u m) unrefined → made r m ≡ build_with bits w h c s v.0
+    pub complete : (u : Transform) → built ≡ Some u → (r : Refined) → r ≡ result_unwrap_or (refine_answer bits w h c v.0 u m) unrefined → made r m ≡ build_with bits w h c s v.0
     unfolding build_with
     complete u f r e = done ∙ at_some _ _ u (same_fit ∙ f) ∙ at_some _ _ t (roughly ∙ et)
       where

@@ -22,19 +22,20 @@ use Rattle.lcr_core.proofs.Answers.{checked_holds}
 use Rattle.binary.specs.Refusal.{bits_checks}
 use Rattle.float.specs.Floats.{is_number}
 use Rattle.geometry.specs.declared.Corners.{Corners}
-use Rattle.geometry.specs.declared.Finder.{Finder}
+use Rattle.lcr_core.specs.declared.finder.Finder.{Finder}
 use Rattle.geometry.specs.Score.{mean_of, corner_score, score_of}
 use Rattle.geometry.specs.Estimate.{estimate_of}
 use Rattle.geometry.proofs.Theorems.{admissible_number}
 use Rattle.finders.specs.Answer.{find_checks, finders_of}
 use Rattle.finders.specs.Search.{found}
 use Rattle.ranking.specs.declared.Triple.{Triple}
-use Rattle.ranking.specs.Ranking.{finder_at, ranked, zero_triple}
+use Rattle.ranking.specs.Ranking.{finder_at, ranked}
+use Rattle.ranking.specs.Tables.{zero_triple}
 use Rattle.ranking.proofs.Theorems.{Admissible, before, ranked_only, never_falls}
 use Rattle.candidates.specs.declared.Detection.{Detection}
 use Rattle.candidates.specs.declared.Detections.{Detections}
 use Rattle.candidates.specs.Detection.{zero_detection, fit_with, marker_by, build_with, build_of}
-use Rattle.candidates.specs.Candidates.{corners_of, kept, detection_of, detections_of, table_of, table_in, first, from_answer, detect_answer, detect_first}
+use Rattle.candidates.specs.Candidates.{corners_of, kept, detection_of, detections_of, detections_table, table_in, first_detection, from_answer, detect_answer, detect_first}
 use Rattle.candidates.proofs.Kept.{builds}
 use Rattle.candidates.specs.Graded.{place_in, first_in, Graded, AllGraded}
 
@@ -44,7 +45,7 @@ if_then P None next h = tt
 if_then P (Some x) next h = h x refl
 
 -- what holds of an answer's table, and of the empty one
-pub in_table : (P : Detections → Type 0) (answer : Result Detections Refusal) → IfOk answer P → P (table_of []) → P (table_in answer)
+pub in_table : (P : Detections → Type 0) (answer : Result Detections Refusal) → IfOk answer P → P (detections_table []) → P (table_in answer)
 in_table P (Ok t) h z = h
 in_table P (Err r) h z = z
 
@@ -112,16 +113,16 @@ module _ (f : Triple → Option Detection) (same : (t : Triple) → IfSome (f t)
       go (Some d) e r = (subst (λ (s : Float). Each (NotUnder score_in s) (builds f ts)) (sym e) above, r)
 
 -- ---- a list as a table, and no detection, as after a refusal
-as_table : (fs : List Finder) (ds : List Detection) → Each (Graded fs) ds → Rising score_in ds → AllGraded fs (table_of ds)
+as_table : (fs : List Finder) (ds : List Detection) → Each (Graded fs) ds → Rising score_in ds → AllGraded fs (detections_table ds)
 as_table fs ds g r =
-    let at : (p : ℕ) → p < length ds → place_in (table_of ds) p ≡ get_or ds p zero_detection = λ p l. get_or-padded 3 zero_detection ds p zero_detection zero_detection l in
+    let at : (p : ℕ) → p < length ds → place_in (detections_table ds) p ≡ get_or ds p zero_detection = λ p l. get_or-padded 3 zero_detection ds p zero_detection zero_detection l in
     record {
       each = λ p l. subst (Graded fs) (sym (at p l)) (each_get_or (Graded fs) ds p zero_detection g l);
       never_fall = λ p q l m. rw (at p (omega arith), at q m) (rising_at score_in zero_detection ds p q r l m);
       none-beyond = λ p l m. let z = get_or_table 3 zero_detection ds p zero_detection m ∙ get_or-eq_default ds zero_detection l in (ap score_in z, ap (λ (d : Detection). d.mean) z);
     }
 
-pub none_graded : (fs : List Finder) → AllGraded fs (table_of [])
+pub none_graded : (fs : List Finder) → AllGraded fs (detections_table [])
 none_graded fs = as_table fs [] tt tt
 
 -- ---- the detections of a list of finders
@@ -158,9 +159,9 @@ module _ (bits : List ℕ) (w h : ℕ) (fs : List Finder) where
   pub scores_never_fall : (p q : ℕ) → p < q → q < length (detections_of bits w h fs) → le (get_or (detections_of bits w h fs) p zero_detection).score (get_or (detections_of bits w h fs) q zero_detection).score ≡ true
   scores_never_fall p q l m = rising_at score_in zero_detection (detections_of bits w h fs) p q scores_rise l m
 
-  answer_graded : (cs : List Check) → AllGraded fs (table_in (checked cs (table_of (detections_of bits w h fs))))
+  answer_graded : (cs : List Check) → AllGraded fs (table_in (checked cs (detections_table (detections_of bits w h fs))))
   answer_graded cs =
-      let t = table_of (detections_of bits w h fs) in
+      let t = detections_table (detections_of bits w h fs) in
       in_table (AllGraded fs) (checked cs t) (checked_holds (AllGraded fs) cs t (as_table fs (detections_of bits w h fs) each_graded scores_rise)) (none_graded fs)
 
 -- ---- what the calls answer
@@ -174,8 +175,8 @@ pub detect_graded : (bits : List ℕ) (w h : ℕ) → AllGraded (finders_of bits
 unfolding detect_answer
 detect_graded bits w h = answer_graded bits w h (finders_of bits w h) (find_checks (length bits) w h (found bits w h))
 
--- `detect`: the detection at the first place of that table, so that none of the others scores lower, or none
-map_checked : {A B : Type 0} (g : A → B) (cs : List Check) (x : A) (y : B) → y ≡ g x → checked cs y ≡ result_map_both g (λ (r : Refusal). r) (checked cs x)
+-- what is made of the value behind checks, behind the same checks
+pub map_checked : {A B : Type 0} (g : A → B) (cs : List Check) (x : A) (y : B) → y ≡ g x → checked cs y ≡ result_map_both g (λ (r : Refusal). r) (checked cs x)
 map_checked g [] x y e = ap Ok e
 map_checked g (c ∷ cs) x y e = go c.refuses (map_checked g cs x y e)
   where
@@ -183,7 +184,8 @@ map_checked g (c ∷ cs) x y e = go c.refuses (map_checked g cs x y e)
     go true h = refl
     go false h = h
 
-first_is : (ds : List Detection) → first ds ≡ first_in (table_of ds)
+-- `detect`: the detection at the first place of that table, so that none of the others scores lower, or none
+first_is : (ds : List Detection) → first_detection ds ≡ first_in (detections_table ds)
 first_is [] = refl
 first_is (d ∷ ds) = rw (lt-ltb 0 (suc (length ds)) (omega arith))
 
@@ -193,7 +195,7 @@ module _ (bits : List ℕ) (w h : ℕ) where
   unfolding detect_answer detect_first
   first-place =
       let ds = detections_of bits w h (finders_of bits w h) in
-      map_checked first_in (find_checks (length bits) w h (found bits w h)) (table_of ds) (first ds) (first_is ds)
+      map_checked first_in (find_checks (length bits) w h (found bits w h)) (detections_table ds) (first_detection ds) (first_is ds)
 
   pub first_graded : (d : Detection) → detect_first bits w h ≡ Ok (Some d)
       → Graded (finders_of bits w h) d × ((q : ℕ) → 0 < q → q < (table_in (detect_answer bits w h)).count → le d.score (place_in (table_in (detect_answer bits w h)) q).score ≡ true)

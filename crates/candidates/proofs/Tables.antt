@@ -12,26 +12,27 @@ use Rattle.lists.proofs.Padded.{get_d_any, get_or_table, padded_more, take-padde
 use Rattle.lists.proofs.Filters.{each_map}
 use Rattle.lists.proofs.Folds.{flat_map-take, flat_map_few, flat_map_same}
 use Rattle.geometry.specs.declared.Corners.{Corners}
-use Rattle.geometry.specs.declared.Finder.{Finder}
-use Rattle.geometry.specs.Order.{zero_finder}
+use Rattle.lcr_core.specs.declared.finder.Finder.{Finder}
+use Rattle.lcr_core.specs.Finder.{zero_finder}
 use Rattle.finders.specs.declared.Finders.{Finders}
 use Rattle.finders.specs.Search.{max_finders}
-use Rattle.finders.specs.Answer.{table_of as finders_table}
+use Rattle.finders.specs.Answer.{finders_table}
 use Rattle.ranking.specs.declared.Eight.{Eight}
 use Rattle.ranking.specs.declared.Ranked.{Ranked}
 use Rattle.ranking.specs.declared.Triple.{Triple}
-use Rattle.ranking.specs.Ranking.{ranked, ranked_table, zero_triple, in_use, eight_of}
+use Rattle.ranking.specs.Ranking.{ranked}
+use Rattle.ranking.specs.Tables.{ranked_table, zero_triple, in_use, eight_of}
 use Rattle.ranking.proofs.Theorems.{Admissible, before, ranked_only, ranked-admissible}
 use Rattle.ranking.proofs.Tables.{in_use_lem, ranked-eight}
 use Rattle.candidates.specs.declared.Detection.{Detection}
 use Rattle.candidates.specs.declared.Detections.{Detections}
 use Rattle.candidates.specs.Detection.{build_of, zero_detection}
 use Rattle.candidates.specs.Passing.{Within}
-use Rattle.candidates.specs.Candidates.{corners_of, kept, detection_of, detections_of, table_of}
+use Rattle.candidates.specs.Candidates.{corners_of, kept, detection_of, detections_of, detections_table}
 use Rattle.candidates.proofs.Kept.{kept_few}
 
 -- ---- one more detection
-pub pushed : (found : Detections) (d : Detection) (ds : List Detection) → found ≡ table_of ds → found.count < 3 → record { count = found.count + 1; at = set found.at found.count d } ≡ table_of (ds ++ d ∷ [])
+pub pushed : (found : Detections) (d : Detection) (ds : List Detection) → found ≡ detections_table ds → found.count < 3 → record { count = found.count + 1; at = set found.at found.count d } ≡ detections_table (ds ++ d ∷ [])
 pushed found d ds e l =
     let m : length ds < 3 = rw e at l in
     let q : set (padded 3 zero_detection ds) (length ds) d ≡ padded 3 zero_detection (ds ++ (d ∷ [])) = padded_more 3 zero_detection ds d m in
@@ -44,7 +45,7 @@ module _ (fs : List Finder) (ts : List Triple) where
   abbrev pub first : List ℕ → ℕ → ℕ → ℕ → List Detection
   first bits w h p = flat_map (detection_of bits w h fs) (take p ts)
 
-  pub first_few : (bits : List ℕ) (w h p : ℕ) (found : Detections) → found ≡ table_of (first bits w h p) → found.count ≤ p
+  pub first_few : (bits : List ℕ) (w h p : ℕ) (found : Detections) → found ≡ detections_table (first bits w h p) → found.count ≤ p
   unfolding detection_of
   first_few bits w h p found g = rw g (omega (arith, flat_map_few (detection_of bits w h fs) (λ s. kept_few (build_of bits w h (corners_of fs s) s.score)) (take p ts), length-take p ts))
 
@@ -56,11 +57,11 @@ module _ (fs : List Finder) (ts : List Triple) where
         let q : kept b ≡ detection_of bits w h fs (get_or ts p d) = ap kept (eb ∙ ap (λ (x : Corners). build_of bits w h x (get_or ts p d).score) ec) in
         g ∙ ap (λ (l : List Detection). first bits w h p ++ l) q ∙ sym (flat_map-take (detection_of bits w h fs) ts p d l)
 
-    pub one_more : (x : Detection) → b ≡ Some x → (found more : Detections) → found ≡ table_of (first bits w h p) → ((ds : List Detection) → found ≡ table_of ds → more ≡ table_of (ds ++ x ∷ [])) → more ≡ table_of (first bits w h (p + 1))
-    one_more x k found more g f = f (first bits w h p) g ∙ ap table_of (next_of _ (rw k refl))
+    pub one_more : (x : Detection) → b ≡ Some x → (found more : Detections) → found ≡ detections_table (first bits w h p) → ((ds : List Detection) → found ≡ detections_table ds → more ≡ detections_table (ds ++ x ∷ [])) → more ≡ detections_table (first bits w h (p + 1))
+    one_more x k found more g f = f (first bits w h p) g ∙ ap detections_table (next_of _ (rw k refl))
 
-    pub none_more : b ≡ None → (found : Detections) → found ≡ table_of (first bits w h p) → found ≡ table_of (first bits w h (p + 1))
-    none_more k found g = g ∙ ap table_of (next_of _ (rw (k, append-nil) refl))
+    pub none_more : b ≡ None → (found : Detections) → found ≡ detections_table (first bits w h p) → found ≡ detections_table (first bits w h (p + 1))
+    none_more k found g = g ∙ ap detections_table (next_of _ (rw (k, append-nil) refl))
 
   -- where they are those of a ranking of the same finders
   module _ (gs : List Finder) (f : fs ≡ gs) (r : Ranked) (e : r ≡ ranked_table (ranked gs)) (q : ts ≡ take r.count r.at) where
@@ -74,10 +75,10 @@ module _ (fs : List Finder) (ts : List Triple) where
         let h = ranked-admissible fs p (rw all_ranked at l) in
         rw (get_d_any ts p d zero_triple l, all_ranked) (record { i_in = omega arith; j_in = omega arith; k_in = omega arith })
 
-    pub all_built : (bits : List ℕ) (w h : ℕ) (p : ℕ) (found : Detections) → length ts ≤ p → found ≡ table_of (first bits w h p) → found ≡ table_of (detections_of bits w h gs)
+    pub all_built : (bits : List ℕ) (w h : ℕ) (p : ℕ) (found : Detections) → length ts ≤ p → found ≡ detections_table (first bits w h p) → found ≡ detections_table (detections_of bits w h gs)
     unfolding detections_of
     all_built bits w h p found l g =
-        g ∙ ap (λ (l : List Triple). table_of (flat_map (detection_of bits w h fs) l)) (take_all p ts l ∙ all_ranked) ∙ ap (λ (fs : List Finder). table_of (detections_of bits w h fs)) f
+        g ∙ ap (λ (l : List Triple). detections_table (flat_map (detection_of bits w h fs) l)) (take_all p ts l ∙ all_ranked) ∙ ap (λ (fs : List Finder). detections_table (detections_of bits w h fs)) f
 
 -- ---- the detections of a list are those of its first eight
 module _ (bits : List ℕ) (w h : ℕ) (fs : List Finder) where

@@ -1,5 +1,6 @@
 -- Of a bit picture of w × h pixels nothing beyond its (w × h + 7) / 8 bytes is read, by the search, by the alignment functions and by the detections.
 -- Assumes nothing.
+use Rattle.std.specs.Option.{option_or}
 use Rattle.std.specs.Prelude.{Option, Some, None, Result, option_and_then}
 use Rattle.std.specs.Result.{result_unwrap_or}
 use Rattle.lcr_core.specs.Answer.{checked}
@@ -11,11 +12,12 @@ use mathlib.Core.List.{List, [], ◌∷◌}
 use Prim.Native.Nat.{ℕ, zero, suc, ◌+◌, ◌-◌, ◌*◌, ◌/◌, ◌≤◌, ◌<◌, min}
 use native.Mathlib.Omega.{arith}
 use lib.Dec.{ltb}
+use lib.IntN.{ℤ, pos, negsuc, ◌+ℤ◌}
 use lib.Ieee.{Float, to_unsigned, to_signed}
 use lib.ListN.{length, take, length-take}
 use lib.Seq.{get_or-take}
 use borrow.Author.Tests.{ltb-true, ltb-false, lt-ltb, le-ltb}
-use Rattle.float.specs.Steps.{plus32}
+use Rattle.float.specs.Steps.{◌⊕◌}
 use Rattle.lists.specs.Lists.{Each, range, folded, flat_map}
 use Rattle.lists.proofs.Folds.{each_range}
 use Rattle.lists.proofs.Numbers.{row_within}
@@ -23,33 +25,33 @@ use Rattle.binary.specs.Binary.{dark_bit, dark_at, bytes_of}
 use Rattle.binary.specs.Line.{row, column, run, run_back, run_before, run_after, end_before, end_after}
 use Rattle.binary.proofs.Ends.{end_of, before_end, after_end}
 use Rattle.binary.specs.Refusal.{short_bits}
-use Rattle.confirm.specs.Confirm.{limit_of, side_before, side_after, counted_of, any_cut, core_of, vertical_by, horizontal_by, row_by, column_by, confirmed_by, confirm_vertical, confirm_horizontal, row_confirmed, column_confirmed, confirmed_on}
+use Rattle.confirm.specs.Confirm.{confirm_limit, side_before, side_after, counted_of, any_cut, core_of, vertical_by, horizontal_by, row_by, column_by, confirmed_by, confirm_vertical, confirm_horizontal, row_confirmed, column_confirmed, confirmed_on}
 use Rattle.confirm.proofs.Inside.{dark_inside}
 use Rattle.transform.specs.Apply.{applied}
-use Rattle.transform.specs.declared.Point.{Point}
+use Rattle.lcr_core.specs.declared.point.Point.{Point}
 use Rattle.transform.specs.declared.Transform.{Transform}
 use Rattle.geometry.specs.Score.{mean_of}
 use Rattle.geometry.specs.Estimate.{estimate_of}
 use Rattle.geometry.specs.Build.{built_fit}
 use Rattle.geometry.specs.declared.Corners.{Corners}
-use Rattle.geometry.specs.declared.Finder.{Finder}
+use Rattle.lcr_core.specs.declared.finder.Finder.{Finder}
 use Rattle.finders.specs.Hits.{Hit, runs, hits, line_hits}
 use Rattle.finders.specs.Held.{Sighting, Held, held, merge_next}
 use Rattle.finders.specs.Search.{max_finders, sighting, seen, row_sightings_by, column_sightings_by, sightings_by, found_by, sightings, found}
 use Rattle.finders.proofs.Axes.{second_same}
 use Rattle.finders.specs.Answer.{find_checks, find_refusal, finders_after, finders_of, answer_of}
-use Rattle.rows.specs.Rows.{pos_part, neg_part, column_end, row_end, radius_of, window_of, middle_of, column_runs, limit_of as rowsLimit, marker_at, confirm_of, starts_at, row_runs, confirmed, seen_of, nearer_of, row_nearest, nearest_of, answer, find_of}
-use Rattle.rows.specs.declared.window.Window.{Window}
+use Rattle.row_search.specs.Rows.{clamp, clamp_right, radius_of, window_of, middle_of, column_runs, column_limit, marker_at, starts_at, row_runs, nearer_of, confirm_marker, marker_by_runs, marker_from, row_nearest, nearest_of, find_answer}
+use Rattle.row_search.specs.declared.window.Window.{Window}
 use Rattle.alignment.specs.declared.Refined.{Refined}
 use Rattle.alignment.specs.declared.template.Votes.{Votes}
-use Rattle.alignment.specs.Template.{taps, no_votes, pixel_at, tapped, module_dark, centre_of, matched_of}
-use Rattle.alignment.specs.Alignment.{alignment_checks, or_else, searched_of, located_of, locate_of, rebuilt_of, refined, refine_of}
+use Rattle.alignment.specs.Template.{taps, no_votes, pixel_at, tapped, module_dark, marker_centre, matched_of}
+use Rattle.alignment.specs.Alignment.{alignment_checks, searched_of, located_of, locate_answer, rebuilt_of, refined_of, refine_answer}
 use Rattle.alignment.proofs.Alike.{best_alike}
 use Rattle.ranking.specs.declared.Triple.{Triple}
-use Rattle.ranking.specs.Ranking.{ranked as rankedTriples}
+use Rattle.ranking.specs.Ranking.{ranked}
 use Rattle.candidates.specs.declared.Detection.{Detection}
 use Rattle.candidates.specs.Detection.{unrefined, build_with, build_of, build_for}
-use Rattle.candidates.specs.Candidates.{corners_of, kept, detection_of, detections_of, table_of, detect_answer}
+use Rattle.candidates.specs.Candidates.{corners_of, kept, detection_of, detections_of, detections_table, detect_answer}
 use Rattle.lcr_core.specs.declared.version.Version.{Version}
 
 -- ---- two lines that agree on their first len pixels
@@ -110,10 +112,10 @@ module _ (f g : ℕ → Bool) (len : ℕ) (same : (k : ℕ) → k < len → f k 
   unfolding starts_at
   starts_same x l = rw (same x l, same (x - 1) (omega arith))
 
-  row_same : (first end x : ℕ) → end ≤ len → x < end → row_runs f first end x ≡ row_runs g first end x
+  row_same : (left right x : ℕ) → right ≤ len → x < right → row_runs f left right x ≡ row_runs g left right x
   unfolding row_runs
-  row_same first end x m l =
-      rw (run_same true x (end - x) (omega arith), back_same false x (x - first) (omega arith), run_same false (x + run true g x (end - x)) (end - (x + run true g x (end - x))) (omega arith))
+  row_same left right x m l =
+      rw (run_same true x (right - x) (omega arith), back_same false x (x - left) (omega arith), run_same false (x + run true g x (right - x)) (right - (x + run true g x (right - x))) (omega arith))
 
 -- ---- a fold whose steps agree
 folded_same : {S A : Type 0} (g k : S → A → S) (xs : List A) → Each (λ (x : A). (s : S) → g s x ≡ k s x) xs → (s : S) → folded g s xs ≡ folded k s xs
@@ -130,6 +132,10 @@ abbrev column_through : (ℕ → ℕ → Float → Option Float) → (ℕ → �
 column_through down across x centre m =
     let y = to_unsigned 32 centre in option_and_then (λ cx. option_and_then (λ cy. Some (record { x = cx; y = cy })) (down (to_unsigned 32 cx) y m)) (across x y m)
 
+-- what a refinement is made of: a transform and a marker, unless a check refuses
+abbrev marked : List Check → Transform → Option Point → Result Refined Refusal
+marked cs t a = checked cs (record { transform = t; marker = a })
+
 -- what a detection is made of: the marker by a transform, and the refinement from one
 abbrev build_by : (Transform → Option Point) → (Transform → Refined) → Corners → Float → ℕ → Option Detection
 build_by locate refine c s v =
@@ -137,18 +143,21 @@ build_by locate refine c s v =
     option_and_then (λ rough. option_and_then (λ t. made (refine t)) (built_fit c (locate rough) v)) (built_fit c None v)
 
 -- the window of the search along rows lies in the picture
-end_within : (p : Point) (m : Float) (w h : ℕ) → (window_of p m w h).end ≤ w
-unfolding window_of column_end
-end_within p m w h =
-    go (ltb (pos_part (to_signed 31 p.x) + radius_of m) (neg_part (to_signed 31 p.x))) (pos_part (to_signed 31 p.x) + radius_of m - neg_part (to_signed 31 p.x))
+right_within : (p : Point) (m : Float) (w h : ℕ) → (window_of p m w h).right ≤ w
+unfolding window_of
+right_within p m w h = go (to_signed 31 p.x +ℤ radius_of m)
   where
-    go : (b : Bool) (x : ℕ) → cond b (w - 1) (min x (w - 1)) ≤ w
-    go true x = omega arith
-    go false x = omega arith
+    go : (z : ℤ) → clamp_right (w - 1) z ≤ w
+    go (pos n) = omega arith
+    go (negsuc n) = omega arith
 
 bottom_within : (p : Point) (m : Float) (w h : ℕ) → (window_of p m w h).bottom ≤ h
-unfolding window_of row_end
-bottom_within p m w h = omega arith
+unfolding window_of
+bottom_within p m w h = go (to_signed 31 p.y +ℤ radius_of m +ℤ pos 1)
+  where
+    go : (z : ℤ) → clamp h z ≤ h
+    go (pos n) = omega arith
+    go (negsuc n) = omega arith
 
 -- ---- two pictures that agree on their pixels
 module _ (a b : List ℕ) (w h : ℕ) (same : (k : ℕ) → k < w * h → dark_bit a k ≡ dark_bit b k) where
@@ -172,20 +181,20 @@ module _ (a b : List ℕ) (w h : ℕ) (same : (k : ℕ) → k < w * h → dark_b
   unfolding vertical_by
   down_same x y m = rw (pixel_same x y) (go (dark_at b w h x y) refl)
     where
-      go : (d : Bool) → dark_at b w h x y ≡ d → cond d (core_of (column a w x) h y (limit_of m)) None ≡ cond d (core_of (column b w x) h y (limit_of m)) None
+      go : (d : Bool) → dark_at b w h x y ≡ d → cond d (core_of (column a w x) h y (confirm_limit m)) None ≡ cond d (core_of (column b w x) h y (confirm_limit m)) None
       go true e =
           let i = dark_inside b w h x y true (sym e) refl in
-          core_same (column a w x) (column b w x) h (column_alike x i.0) y (limit_of m) (omega (arith, i.1))
+          core_same (column a w x) (column b w x) h (column_alike x i.0) y (confirm_limit m) (omega (arith, i.1))
       go false e = refl
 
   across_same : (x y : ℕ) (m : Float) → confirm_horizontal a w h x y m ≡ confirm_horizontal b w h x y m
   unfolding horizontal_by
   across_same x y m = rw (pixel_same x y) (go (dark_at b w h x y) refl)
     where
-      go : (d : Bool) → dark_at b w h x y ≡ d → cond d (core_of (row a w y) w x (limit_of m)) None ≡ cond d (core_of (row b w y) w x (limit_of m)) None
+      go : (d : Bool) → dark_at b w h x y ≡ d → cond d (core_of (row a w y) w x (confirm_limit m)) None ≡ cond d (core_of (row b w y) w x (confirm_limit m)) None
       go true e =
           let i = dark_inside b w h x y true (sym e) refl in
-          core_same (row a w y) (row b w y) w (row_alike y i.1) x (limit_of m) (omega (arith, i.0))
+          core_same (row a w y) (row b w y) w (row_alike y i.1) x (confirm_limit m) (omega (arith, i.0))
       go false e = refl
 
   down_alike : confirm_vertical a w h ≡ confirm_vertical b w h
@@ -211,7 +220,7 @@ module _ (a b : List ℕ) (w h : ℕ) (same : (k : ℕ) → k < w * h → dark_b
   confirmed_same columns n x m = rw (on_column_same n x m, on_row_same n x m)
 
   seen_same : (columns : Bool) (n : ℕ) (t : Hit) → seen a w h columns n t ≡ seen b w h columns n t
-  seen_same columns n t = ap (sighting t.pitch) (confirmed_same columns n t.centre t.pitch)
+  seen_same columns n t = ap (sighting t.«module») (confirmed_same columns n t.centre t.«module»)
 
   seen_alike : (columns : Bool) (n : ℕ) (ts : List Hit) → flat_map (seen a w h columns n) ts ≡ flat_map (seen b w h columns n) ts
   seen_alike columns n ts = ap (λ (s : Hit → List Sighting). flat_map s ts) (fun_ext (λ t. seen_same columns n t))
@@ -234,35 +243,38 @@ module _ (a b : List ℕ) (w h : ℕ) (same : (k : ℕ) → k < w * h → dark_b
   found_same = ap (folded (merge_next max_finders) (held [])) sightings_same
 
   -- ---- the search for the marker along rows
-  confirm_same : (m : Float) (y : ℕ) (x : Float) → confirm_of a w h m y x ≡ confirm_of b w h m y x
-  unfolding confirm_of
+  confirm_same : (m : Float) (y : ℕ) (x : Float) → confirm_marker a w h m y x ≡ confirm_marker b w h m y x
+  unfolding confirm_marker
   confirm_same m y x = let i = to_unsigned 32 x in rw (pixel_same i y) (go i (dark_at b w h i y) refl)
     where
       go : (i : ℕ) (d : Bool) → dark_at b w h i y ≡ d
-          → cond d (marker_at m x (column_runs (column a w i) h y (rowsLimit m))) None ≡ cond d (marker_at m x (column_runs (column b w i) h y (rowsLimit m))) None
+          → cond d (marker_at m x (column_runs (column a w i) h y (column_limit m))) None ≡ cond d (marker_at m x (column_runs (column b w i) h y (column_limit m))) None
       go i true e =
           let k = dark_inside b w h i y true (sym e) refl in
-          ap (marker_at m x) (column_same (column a w i) (column b w i) h (column_alike i k.0) y (rowsLimit m) (omega (arith, k.1)))
+          ap (marker_at m x) (column_same (column a w i) (column b w i) h (column_alike i k.0) y (column_limit m) (omega (arith, k.1)))
       go i false e = refl
 
-  seen_of_same : (first end : ℕ) (m : Float) (y x : ℕ) → y < h → x < end → end ≤ w → seen_of a w h first end m y x ≡ seen_of b w h first end m y x
-  unfolding seen_of confirmed
-  seen_of_same first end m y x l k e =
-      rw (starts_same (row a w y) (row b w y) w (row_alike y l) x (omega arith), row_same (row a w y) (row b w y) w (row_alike y l) first end x e k, confirm_same m y (middle_of (row_runs (row b w y) first end x)))
+  module _ (m : Float) (v : Window) (e : v.right ≤ w) where
+    from_same : (y x : ℕ) → y < h → x < v.right → marker_from a w h m v y x ≡ marker_from b w h m v y x
+    unfolding marker_from marker_by_runs
+    from_same y x l k =
+        rw (starts_same (row a w y) (row b w y) w (row_alike y l) x (omega arith), row_same (row a w y) (row b w y) w (row_alike y l) v.left v.right x e k, confirm_same m y (middle_of (row_runs (row b w y) v.left v.right x)))
 
-  along_same : (first end : ℕ) (p : Point) (m : Float) (y : ℕ) → y < h → end ≤ w → (best : Option Point) → row_nearest a w h first end p m best y ≡ row_nearest b w h first end p m best y
-  unfolding row_nearest
-  along_same first end p m y l e best =
-      folded_same (λ (s : Option Point) (x : ℕ). nearer_of p s (seen_of a w h first end m y x)) (λ (s : Option Point) (x : ℕ). nearer_of p s (seen_of b w h first end m y x)) (range (first + 1) end)
-      (each_range (λ x. (s : Option Point) → nearer_of p s (seen_of a w h first end m y x) ≡ nearer_of p s (seen_of b w h first end m y x)) (first + 1) end (λ x _ k s. ap (nearer_of p s) (seen_of_same first end m y x l k e)))
-      best
+    along_same : (p : Point) (y : ℕ) → y < h → (nearest : Option Point) → row_nearest a w h m v p nearest y ≡ row_nearest b w h m v p nearest y
+    unfolding row_nearest
+    along_same p y l nearest =
+        folded_same (λ (s : Option Point) (x : ℕ). nearer_of p s (marker_from a w h m v y x)) (λ (s : Option Point) (x : ℕ). nearer_of p s (marker_from b w h m v y x))
+        (range (v.left + 1) v.right)
+        (each_range (λ x. (s : Option Point) → nearer_of p s (marker_from a w h m v y x) ≡ nearer_of p s (marker_from b w h m v y x)) (v.left + 1) v.right
+        (λ x _ k s. ap (nearer_of p s) (from_same y x l k)))
+        nearest
 
-  nearest_same : (v : Window) (p : Point) (m : Float) → v.end ≤ w → v.bottom ≤ h → nearest_of a w h v p m ≡ nearest_of b w h v p m
-  unfolding nearest_of
-  nearest_same v p m e l =
-      folded_same (row_nearest a w h v.first v.end p m) (row_nearest b w h v.first v.end p m) (range v.top v.bottom)
-      (each_range (λ y. (s : Option Point) → row_nearest a w h v.first v.end p m s y ≡ row_nearest b w h v.first v.end p m s y) v.top v.bottom (λ y _ k s. along_same v.first v.end p m y (omega arith) e s))
-      None
+    nearest_same : (p : Point) → v.bottom ≤ h → nearest_of a w h m v p ≡ nearest_of b w h m v p
+    unfolding nearest_of
+    nearest_same p l =
+        folded_same (row_nearest a w h m v p) (row_nearest b w h m v p) (range v.top v.bottom)
+        (each_range (λ y. (s : Option Point) → row_nearest a w h m v p s y ≡ row_nearest b w h m v p s y) v.top v.bottom (λ y _ k s. along_same p y (omega arith) s))
+        None
 
   -- ---- the template match
   tap_same : (v : Votes) (p : Point) → tapped a w h v p ≡ tapped b w h v p
@@ -276,11 +288,11 @@ module _ (a b : List ℕ) (w h : ℕ) (same : (k : ℕ) → k < w * h → dark_b
     module_same : (x y : Float) → module_dark a w h t x y ≡ module_dark b w h t x y
     unfolding module_dark
     module_same x y =
-        ap (λ (f : Votes → Point → Votes). let v = folded (λ (v : Votes) (o : Point). f v (applied t (plus32 x o.x) (plus32 y o.y))) no_votes taps in ltb v.seen (v.dark * 2)) taps_alike
+        ap (λ (f : Votes → Point → Votes). let v = folded (λ (v : Votes) (o : Point). f v (applied t (x ⊕ o.x) (y ⊕ o.y))) no_votes taps in ltb v.seen (v.dark * 2)) taps_alike
 
     matched_same : (v : ℕ) → matched_of a w h t v ≡ matched_of b w h t v
     unfolding matched_of
-    matched_same v = rw (best_alike a b w h t t module_same (centre_of v))
+    matched_same v = rw (best_alike a b w h t t module_same (marker_centre v))
 
   -- ---- what is refused for too few bytes, and what follows
   module _ (short : short_bits (length a) w h ≡ short_bits (length b) w h) where
@@ -298,37 +310,37 @@ module _ (a b : List ℕ) (w h : ℕ) (same : (k : ℕ) → k < w * h → dark_b
     unfolding answer_of
     search_same = rw (short, found_same)
 
-    find_same : (p : Point) (m : Float) → find_of a w h p m ≡ find_of b w h p m
-    unfolding find_of
-    find_same p m = rw (short, nearest_same (window_of p m w h) p m (end_within p m w h) (bottom_within p m w h))
+    find_same : (p : Point) (m : Float) → find_answer a w h p m ≡ find_answer b w h p m
+    unfolding find_answer
+    find_same p m = rw (short, nearest_same m (window_of p m w h) (right_within p m w h) p (bottom_within p m w h))
 
     searched_same : (t : Transform) (v : ℕ) (m : Float) → searched_of a w h t v m ≡ searched_of b w h t v m
     unfolding searched_of
-    searched_same t v m = ap (λ (l : Result (Option Point) Refusal). result_unwrap_or l None) (find_same (applied t (centre_of v) (centre_of v)) m)
+    searched_same t v m = ap (λ (l : Result (Option Point) Refusal). result_unwrap_or l None) (find_same (applied t (marker_centre v) (marker_centre v)) m)
 
     located_same : (t : Transform) (v : ℕ) (m : Float) → located_of a w h t v m ≡ located_of b w h t v m
     unfolding located_of
     located_same t v m =
-        ap (λ (k : Option Point). cond (ltb v 2) None (or_else k (searched_of a w h t v m))) (matched_same t v)
-        ∙ ap (λ (k : Option Point). cond (ltb v 2) None (or_else (matched_of b w h t v) k)) (searched_same t v m)
+        ap (λ (k : Option Point). cond (ltb v 2) None (option_or k (searched_of a w h t v m))) (matched_same t v)
+        ∙ ap (λ (k : Option Point). cond (ltb v 2) None (option_or (matched_of b w h t v) k)) (searched_same t v m)
 
-    locate_same : (t : Transform) (v : ℕ) (m : Float) → locate_of a w h t v m ≡ locate_of b w h t v m
-    unfolding locate_of
+    locate_same : (t : Transform) (v : ℕ) (m : Float) → locate_answer a w h t v m ≡ locate_answer b w h t v m
+    unfolding locate_answer
     locate_same t v m =
-        ap (λ (cs : List Check). answer cs (located_of a w h t v m)) (alignment_same v) ∙ ap (answer (alignment_checks (length b) w h v)) (located_same t v m)
+        ap (λ (cs : List Check). checked cs (located_of a w h t v m)) (alignment_same v) ∙ ap (checked (alignment_checks (length b) w h v)) (located_same t v m)
 
-    refine_same : (c : Corners) (v : ℕ) (t : Transform) (m : Float) → refine_of a w h c v t m ≡ refine_of b w h c v t m
-    unfolding refine_of
+    refine_same : (c : Corners) (v : ℕ) (t : Transform) (m : Float) → refine_answer a w h c v t m ≡ refine_answer b w h c v t m
+    unfolding refine_answer refined_of
     refine_same c v t m =
-        ap (λ (cs : List Check). refined cs (rebuilt_of c (located_of a w h t v m) v t) (located_of a w h t v m)) (alignment_same v)
-        ∙ ap (λ (k : Option Point). refined (alignment_checks (length b) w h v) (rebuilt_of c k v t) k) (located_same t v m)
+        ap (λ (cs : List Check). marked cs (rebuilt_of c (located_of a w h t v m) v t) (located_of a w h t v m)) (alignment_same v)
+        ∙ ap (λ (k : Option Point). marked (alignment_checks (length b) w h v) (rebuilt_of c k v t) k) (located_same t v m)
 
     build_same : (c : Corners) (s : Float) (v : ℕ) → build_with a w h c s v ≡ build_with b w h c s v
     unfolding build_with
     build_same c s v =
         let m = mean_of c.tl c.tr c.bl in
-        ap (λ (l : Transform → Option Point). build_by l (λ t. result_unwrap_or (refine_of a w h c v t m) unrefined) c s v) (fun_ext (λ t. ap (λ (l : Result (Option Point) Refusal). result_unwrap_or l None) (locate_same t v m)))
-        ∙ ap (λ (r : Transform → Refined). build_by (λ t. result_unwrap_or (locate_of b w h t v m) None) r c s v) (fun_ext (λ t. ap (λ (r : Result Refined Refusal). result_unwrap_or r unrefined) (refine_same c v t m)))
+        ap (λ (l : Transform → Option Point). build_by l (λ t. result_unwrap_or (refine_answer a w h c v t m) unrefined) c s v) (fun_ext (λ t. ap (λ (l : Result (Option Point) Refusal). result_unwrap_or l None) (locate_same t v m)))
+        ∙ ap (λ (r : Transform → Refined). build_by (λ t. result_unwrap_or (locate_answer b w h t v m) None) r c s v) (fun_ext (λ t. ap (λ (r : Result Refined Refusal). result_unwrap_or r unrefined) (refine_same c v t m)))
 
     built_same : (c : Corners) (s : Float) → build_of a w h c s ≡ build_of b w h c s
     unfolding build_of
@@ -340,14 +352,14 @@ module _ (a b : List ℕ) (w h : ℕ) (same : (k : ℕ) → k < w * h → dark_b
 
     pub detections_same : (fs : List Finder) → detections_of a w h fs ≡ detections_of b w h fs
     unfolding detections_of detection_of
-    detections_same fs = ap (λ (f : Triple → List Detection). flat_map f (rankedTriples fs)) (fun_ext (λ t. ap kept (built_same (corners_of fs t) t.score)))
+    detections_same fs = ap (λ (f : Triple → List Detection). flat_map f (ranked fs)) (fun_ext (λ t. ap kept (built_same (corners_of fs t) t.score)))
 
     pub answer_same : detect_answer a w h ≡ detect_answer b w h
     unfolding detect_answer
     answer_same =
-        ap (λ (s : Held). checked (find_checks (length a) w h s) (table_of (detections_of a w h (finders_after s)))) found_same
-        ∙ ap (λ (cs : List Check). checked cs (table_of (detections_of a w h (finders_of b w h)))) (checks_same (found b w h))
-        ∙ ap (λ (ds : List Detection). checked (find_checks (length b) w h (found b w h)) (table_of ds)) (detections_same (finders_of b w h))
+        ap (λ (s : Held). checked (find_checks (length a) w h s) (detections_table (detections_of a w h (finders_after s)))) found_same
+        ∙ ap (λ (cs : List Check). checked cs (detections_table (detections_of a w h (finders_of b w h)))) (checks_same (found b w h))
+        ∙ ap (λ (ds : List Detection). checked (find_checks (length b) w h (found b w h)) (detections_table ds)) (detections_same (finders_of b w h))
 
 -- ---- the bytes of the picture are enough
 module _ (bits : List ℕ) (w h : ℕ) where

@@ -20,20 +20,20 @@ use Rattle.lcr_core.specs.Version.{valid, version_checks}
 use Rattle.binary.specs.Refusal.{short_bits, bits_checks, bits_refusal}
 use Rattle.transform.specs.declared.Transform.{Transform}
 use Rattle.geometry.specs.declared.Corners.{Corners}
-use Rattle.geometry.specs.declared.Finder.{Finder}
+use Rattle.lcr_core.specs.declared.finder.Finder.{Finder}
 use Rattle.geometry.specs.Estimate.{side_in, nearest_version, estimate_of}
 use Rattle.geometry.specs.Build.{built_of}
 use Rattle.geometry.proofs.Theorems.{from_1_to_32}
-use Rattle.alignment.specs.Alignment.{alignment_checks, alignment_refusal, locate_of, refine_of}
+use Rattle.alignment.specs.Alignment.{alignment_checks, alignment_refusal, locate_answer, refine_answer}
 use Rattle.finders.specs.Answer.{find_checks, find_refusal, finders_of}
 use Rattle.finders.specs.Search.{found}
 use Rattle.ranking.specs.declared.Triple.{Triple}
 use Rattle.ranking.specs.Ranking.{ranked}
 use Rattle.ranking.proofs.Theorems.{Admissible, before, ranked_only, at_most_three}
 use Rattle.candidates.specs.Detection.{build_of}
-use Rattle.candidates.specs.Candidates.{corners_of, detection_of, detections_of, table_of, from_answer, detect_answer}
+use Rattle.candidates.specs.Candidates.{corners_of, detection_of, detections_of, detections_table, from_answer, detect_answer}
 use Rattle.candidates.proofs.Kept.{kept_few}
-use Rattle.transform.specs.declared.Point.{Point}
+use Rattle.lcr_core.specs.declared.point.Point.{Point}
 
 -- ---- no step is refused
 estimated : (c : Corners) (v : Version) → estimate_of c ≡ Some v → v.0 ≡ nearest_version (side_in c)
@@ -67,12 +67,12 @@ module _ (bits : List ℕ) (w h : ℕ) (done : bits_refusal (length bits) w h �
   unfolding built_of
   built_not_refused m = number_checked (version_checks v.0) _ ∙ rw (estimate_valid c v e)
 
-  pub located_not_refused : (t : Transform) (m : Float) → number_of (locate_of bits w h t v.0 m) ≡ 0
-  unfolding locate_of alignment_refusal
+  pub located_not_refused : (t : Transform) (m : Float) → number_of (locate_answer bits w h t v.0 m) ≡ 0
+  unfolding locate_answer alignment_refusal
   located_not_refused t m = number_checked (alignment_checks (length bits) w h v.0) _ ∙ passes
 
-  pub refined_not_refused : (t : Transform) (m : Float) → number_of (refine_of bits w h c v.0 t m) ≡ 0
-  unfolding refine_of alignment_refusal
+  pub refined_not_refused : (t : Transform) (m : Float) → number_of (refine_answer bits w h c v.0 t m) ≡ 0
+  unfolding refine_answer alignment_refusal
   refined_not_refused t m = number_checked (alignment_checks (length bits) w h v.0) _ ∙ passes
 
 -- ---- of a picture that isn't refused, the two calls agree
@@ -87,7 +87,7 @@ found_passed bits w h e =
 pub same_answer : (bits : List ℕ) (w h : ℕ) → find_refusal bits w h ≡ 0 → detect_answer bits w h ≡ from_answer bits w h (finders_of bits w h)
 unfolding detect_answer from_answer find_refusal bits_refusal
 same_answer bits w h e =
-    let t = table_of (detections_of bits w h (finders_of bits w h)) in
+    let t = detections_table (detections_of bits w h (finders_of bits w h)) in
     sym (checked_passed (find_checks (length bits) w h (found bits w h)) t (sym e)) ∙ checked_passed (bits_checks (length bits) w h) t (sym (found_passed bits w h e))
 
 -- ---- three at most, and none of fewer than three finders

@@ -1,12 +1,12 @@
--- The detections of a picture (document 01, "Finding and ranking"): "The call's detections, in number, order and every field, equal the detections of the
--- ranked triples in rank order, those that can't be built left out", whatever finders are lent or found. Definitions only.
+-- To be believed. The detections of a picture (document 01, "Finding and ranking"): "The call's detections, in number, order and every field, equal the
+-- detections of the ranked triples in rank order, those that can't be built left out", whatever finders are lent or found.
 use Rattle.std.specs.Prelude.{List, [], ◌∷◌, Option, Some, None, Result, Ok, Err, ℕ, length}
 use Rattle.lists.specs.Lists.{padded, flat_map}
 use Rattle.lcr_core.specs.Answer.{checked}
 use Rattle.lcr_core.specs.declared.Refusal.{Refusal}
 use Rattle.binary.specs.Refusal.{bits_checks}
 use Rattle.geometry.specs.declared.Corners.{Corners}
-use Rattle.geometry.specs.declared.Finder.{Finder}
+use Rattle.lcr_core.specs.declared.finder.Finder.{Finder}
 use Rattle.geometry.specs.Order.{order_of}
 use Rattle.finders.specs.Answer.{find_checks, finders_of}
 use Rattle.finders.specs.Search.{found}
@@ -36,27 +36,27 @@ detections_of bits w h fs = flat_map (detection_of bits w h fs) (ranked fs)
 -- ---- what the calls answer
 
 -- detections as a table: places from the count on are zero
-abbrev pub table_of : List Detection → Detections
-table_of ds = record { count = length ds; at = padded 3 zero_detection ds }
+abbrev pub detections_table : List Detection → Detections
+detections_table ds = record { count = length ds; at = padded 3 zero_detection ds }
 
 -- the detections of an answer, none after a refusal
 abbrev pub table_in : Result Detections Refusal → Detections
 table_in (Ok t) = t
-table_in (Err refusal) = table_of []
+table_in (Err refusal) = detections_table []
 
 -- `candidates_from`: 1, 2, 4, or the detections of the lent finders
 unfoldable pub from_answer : List ℕ → ℕ → ℕ → List Finder → Result Detections Refusal
-from_answer bits w h fs = checked (bits_checks (length bits) w h) (table_of (detections_of bits w h fs))
+from_answer bits w h fs = checked (bits_checks (length bits) w h) (detections_table (detections_of bits w h fs))
 
 -- `detect_candidates`: the refusals of the search, 1, 2, 4, 6, or the detections of the finders that it gives, in its order
 unfoldable pub detect_answer : List ℕ → ℕ → ℕ → Result Detections Refusal
-detect_answer bits w h = checked (find_checks (length bits) w h (found bits w h)) (table_of (detections_of bits w h (finders_of bits w h)))
+detect_answer bits w h = checked (find_checks (length bits) w h (found bits w h)) (detections_table (detections_of bits w h (finders_of bits w h)))
 
 -- the first detection, if there is one
-abbrev pub first : List Detection → Option Detection
-first [] = None
-first (d ∷ ds) = Some d
+abbrev pub first_detection : List Detection → Option Detection
+first_detection [] = None
+first_detection (d ∷ ds) = Some d
 
 -- `detect`: the refusals of `detect_candidates`, or its first detection, if there is one
 unfoldable pub detect_first : List ℕ → ℕ → ℕ → Result (Option Detection) Refusal
-detect_first bits w h = checked (find_checks (length bits) w h (found bits w h)) (first (detections_of bits w h (finders_of bits w h)))
+detect_first bits w h = checked (find_checks (length bits) w h (found bits w h)) (first_detection (detections_of bits w h (finders_of bits w h)))

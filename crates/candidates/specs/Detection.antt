@@ -1,20 +1,20 @@
--- What three ordered finders give when built: `build_detection` of document 000, step by step (document 01: "A ranked triple can't be built exactly where
--- the rules of `build_detection` .. give none for its finders and the picture's bits"). In a call that isn't refused no step is (proofs/Theorems.antt).
--- Document 02, N8: "Each detection carries its triple's score and mean module". Definitions only.
+-- To be believed. What three ordered finders give when built: `build_detection` of document 000, step by step (document 01: "A ranked triple can't be built
+-- exactly where the rules of `build_detection` .. give none for its finders and the picture's bits"). In a call that isn't refused no step is
+-- (proofs/Theorems.antt). Document 02, N8: "Each detection carries its triple's score and mean module".
 use Rattle.std.specs.Prelude.{List, ℕ, Float, Option, Some, None, option_and_then}
 use Rattle.std.specs.Result.{result_unwrap_or}
 use Rattle.float.specs.Constants.{f0}
 use Rattle.transform.specs.declared.Transform.{Transform}
 use Rattle.transform.specs.Fit.{zero_transform, Plain}
 use Rattle.geometry.specs.declared.Corners.{Corners}
-use Rattle.geometry.specs.Order.{zero_finder}
+use Rattle.lcr_core.specs.Finder.{zero_finder}
 use Rattle.geometry.specs.Score.{mean_of}
 use Rattle.geometry.specs.Estimate.{estimate_of}
 use Rattle.geometry.specs.Build.{built_fit}
-use Rattle.alignment.specs.Alignment.{locate_of, refine_of}
+use Rattle.alignment.specs.Alignment.{locate_answer, refine_answer}
 use Rattle.alignment.specs.declared.Refined.{Refined}
 use Rattle.candidates.specs.declared.Detection.{Detection}
-use Rattle.transform.specs.declared.Point.{Point}
+use Rattle.lcr_core.specs.declared.point.Point.{Point}
 use Rattle.lcr_core.specs.declared.version.Version.{Version}
 
 -- what fills places beyond a count
@@ -40,8 +40,8 @@ unrefined = record { transform = zero_transform; marker = None }
 -- of a picture of w × h pixels and finders c
 module _ (bits : List ℕ) (w h : ℕ) (c : Corners) where
   -- the mean module, from top left, top right and bottom left in this order
-  abbrev pub mean : Float
-  mean = mean_of c.tl c.tr c.bl
+  abbrev pub mean_module : Float
+  mean_module = mean_of c.tl c.tr c.bl
 
   -- the transform for version v through the finders and a marker, if there is one
   abbrev pub fit_with : Option Point → ℕ → Option Transform
@@ -49,15 +49,15 @@ module _ (bits : List ℕ) (w h : ℕ) (c : Corners) where
 
   -- the marker, looked for through the transform t
   abbrev pub marker_by : Transform → ℕ → Option Point
-  marker_by t v = result_unwrap_or (locate_of bits w h t v mean) None
+  marker_by t v = result_unwrap_or (locate_answer bits w h t v mean_module) None
 
   -- of a triple with the score s
   module _ (s : Float) where
     -- the detection, its transform and its marker refined once from the transform t, with the score and the mean module
     abbrev pub refined_from : Transform → ℕ → Option Detection
     refined_from t v =
-        let r = result_unwrap_or (refine_of bits w h c v t mean) unrefined in
-        Some (record { finders = c; marker = r.marker; version = record { 0 = v }; transform = r.transform; score = s; mean = mean })
+        let r = result_unwrap_or (refine_answer bits w h c v t mean_module) unrefined in
+        Some (record { finders = c; marker = r.marker; version = record { 0 = v }; transform = r.transform; score = s; mean = mean_module })
 
     -- for version v: a rough transform through the finders alone, the marker by it, and the transform through both
     unfoldable pub build_with : ℕ → Option Detection

@@ -1,11 +1,11 @@
--- What document 02, N8, says of score and mean module in a table of detections: what proofs/Grades.antt and the chain's theorems speak of. The contracts fix
--- both by Detection.antt. Definitions only.
+-- To be believed. What document 02, N8, says of score and mean module in a table of detections: what proofs/Grades.antt and the chain's theorems speak of.
+-- The contracts fix both by Detection.antt.
 use Rattle.std.specs.Prelude.{◌≡◌, true, cond, List, ℕ, ◌≤◌, ◌<◌, ltb, get_or, Option, Some, None}
 use Rattle.std.specs.Float.Ieee.{le}
 use Rattle.lists.specs.Lists.{Some as Exists}
 use Rattle.float.specs.Constants.{f0}
 use Rattle.float.specs.Floats.{is_number}
-use Rattle.geometry.specs.declared.Finder.{Finder}
+use Rattle.lcr_core.specs.declared.finder.Finder.{Finder}
 use Rattle.geometry.specs.Score.{mean_of, corner_score}
 use Rattle.ranking.specs.declared.Triple.{Triple}
 use Rattle.ranking.specs.Ranking.{ranked}

@@ -1,6 +1,6 @@
--- What inner functions ask of their callers. For contracts of inner functions, and for proofs.
+-- For inner contracts and proofs. What inner functions ask of their callers.
 use Rattle.std.specs.Prelude.{◌<◌, List, length}
-use Rattle.geometry.specs.declared.Finder.{Finder}
+use Rattle.lcr_core.specs.declared.finder.Finder.{Finder}
 use Rattle.ranking.specs.declared.Triple.{Triple}
 
 -- the places of a triple are those of finders

@@ -1,5 +1,5 @@
--- The detections in a picture over the finders of document 000's search (document 02, N7: "In the finder search and what follows from it"): what the theorems
--- on equality speak of, and no contract does. Definitions only.
+-- To be believed. The detections in a picture over the finders of document 000's search (document 02, N7: "In the finder search and what follows from it"):
+-- what the theorems on equality speak of, and no contract does.
 use Rattle.std.specs.Prelude.{List, ℕ, Option, Result, length}
 use Rattle.lcr_core.specs.Answer.{checked}
 use Rattle.lcr_core.specs.declared.Refusal.{Refusal}
@@ -9,7 +9,7 @@ use Rattle.finders.specs.Search.{found_by}
 use Rattle.finders.specs.Published.{published_finders}
 use Rattle.candidates.specs.declared.Detection.{Detection}
 use Rattle.candidates.specs.declared.Detections.{Detections}
-use Rattle.candidates.specs.Candidates.{detections_of, table_of, first}
+use Rattle.candidates.specs.Candidates.{detections_of, detections_table, first_detection}
 
 -- those of its finders
 abbrev pub published_detections : List ℕ → ℕ → ℕ → List Detection
@@ -17,8 +17,8 @@ published_detections bits w h = detections_of bits w h (published_finders bits w
 
 -- `detect_candidates`
 abbrev pub published_detect : List ℕ → ℕ → ℕ → Result Detections Refusal
-published_detect bits w h = checked (find_checks (length bits) w h (found_by counted_of bits w h)) (table_of (published_detections bits w h))
+published_detect bits w h = checked (find_checks (length bits) w h (found_by counted_of bits w h)) (detections_table (published_detections bits w h))
 
 -- `detect`
 abbrev pub published_first : List ℕ → ℕ → ℕ → Result (Option Detection) Refusal
-published_first bits w h = checked (find_checks (length bits) w h (found_by counted_of bits w h)) (first (published_detections bits w h))
+published_first bits w h = checked (find_checks (length bits) w h (found_by counted_of bits w h)) (first_detection (published_detections bits w h))

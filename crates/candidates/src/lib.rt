@@ -2,20 +2,22 @@
 #![tactic(auto)]
 
 ghost use Rattle.std.specs.Prelude.{◌≡◌, List, [], ◌∷◌, ◌++◌, ◌<◌, ◌≤◌, length, take};
-ghost use Rattle.ranking.specs.Ranking.{in_use, eight_of};
-ghost use Rattle.finders.specs.Answer.{table_of as finders_table};
+ghost use Rattle.ranking.specs.Tables.{in_use, eight_of};
+ghost use Rattle.finders.specs.Answer.{finders_table};
 ghost use Rattle.candidates.specs.Detection.{build_with, build_of, zero_detection};
 ghost use Rattle.candidates.specs.Passing.{Within};
-ghost use Rattle.candidates.specs.Candidates.{corners_of, detections_of, table_of, from_answer, detect_answer, detect_first};
+ghost use Rattle.candidates.specs.Candidates.{corners_of, detections_of, detections_table, from_answer, detect_answer, detect_first};
 
 use alignment::Refined;
 use binary::picture::LentBits;
 use finders::Finders;
-use geometry::{Corners, Finder};
+use geometry::Corners;
 use lcr_core::Refusal;
+use lcr_core::finder::Finder;
+use lcr_core::point::Point;
 use lcr_core::version::Version;
 use ranking::{Eight, Triple};
-use transform::{Point, Transform};
+use transform::Transform;
 
 // A detected symbol: its finders, the centre of its alignment marker where one was found, its version, the transform from modules to pixels, the score of its
 // triple and the mean module of its finders.
@@ -93,7 +95,7 @@ fn build_detection(bits: LentBits<'_>, c: Corners, score: f32) -> Option<Detecti
 
 // The empty table.
 pub fn no_detections() -> Detections
-    ensures { result ≡ table_of [] }
+    ensures { result ≡ detections_table [] }
 {
     let z = zero_detection();
     Detections {
@@ -114,7 +116,7 @@ impl Detections {
     // One more detection.
     fn push(&mut self, d: Detection)
         requires { self.old.count < 3 }
-        ensures { (ds : List Detection) → self.old ≡ table_of ds → self.new ≡ table_of (ds ++ d ∷ []) }
+        ensures { (ds : List Detection) → self.old ≡ detections_table ds → self.new ≡ detections_table (ds ++ d ∷ []) }
     {
         self.at[self.count] = d;
         self.count += 1;
@@ -133,7 +135,7 @@ fn corners_at(fs: &[Finder], s: Triple) -> Corners
 // the search.
 #[inline(never)]
 fn built_triples(bits: LentBits<'_>, t: Eight) -> Detections
-    ensures { let p = bits.entry in result ≡ table_of (detections_of p.bits.now p.width p.height (in_use t)) }
+    ensures { let p = bits.entry in result ≡ detections_table (detections_of p.bits.now p.width p.height (in_use t)) }
 {
     let fs = t.as_slice();
     let ranked = ranking::ranking(t);
@@ -159,7 +161,7 @@ pub fn candidates_in(bits: LentBits<'_>, t: Eight) -> Result<Detections, Refusal
 pub fn eight_in(t: Finders) -> Eight
     ensures { (fs : List Finder) → t ≡ finders_table fs → result ≡ eight_of fs }
 {
-    ranking::table_of(t.count, lent::first_eight(&t.table).at)
+    ranking::eight_places(t.count, ranking::lent::first_eight(&t.table).at)
 }
 
 // The detections of a picture: refusals 1, 2, 4, and 6 where it has too many finders.
@@ -182,5 +184,5 @@ pub fn detect(bits: LentBits<'_>) -> Result<Option<Detection>, Refusal>
 pub fn candidates_from(bits: LentBits<'_>, fs: &[Finder]) -> Result<Detections, Refusal>
     ensures { let p = bits.entry in result ≡ from_answer p.bits.now p.width p.height fs.now }
 {
-    candidates_in(bits, lent::first_eight(fs))
+    candidates_in(bits, ranking::lent::first_eight(fs))
 }

@@ -29,43 +29,47 @@ use Rattle.candidates.proofs.Lenses.{none-plain, detect_plain}
 use Rattle.candidates.proofs.Published.{uncut_detect}
 use Rattle.firmware.specs.Firmware.{firmware_bytes, firmware_size}
 use Rattle.firmware.proofs.Theorems.{answer_bytes}
-use Rattle.stages.specs.Stages.{stages_refusal}
-use Rattle.stages.specs.Pictures.{denoised_picture}
+use Rattle.stages.specs.Stages.{Room, stages_refusal}
+use Rattle.stages.specs.Pictures.{Picture, denoised_picture}
 use Rattle.stages.proofs.Theorems.{length_denoised}
 use Rattle.chain.specs.Chain.{chain_of}
 
-module _ (p : List ℕ) (w h s f : ℕ) where
+module _ (p : Picture) where
+  abbrev w : ℕ
+  w = p.width
+
+  abbrev h : ℕ
+  h = p.height
+
   -- the search of the denoised bits refuses with nothing else
-  pub search_six : (len gray bits denoised : ℕ) (work : List ℕ) → stages_refusal len w h s f gray bits denoised work ≡ 0
-      → find_refusal (denoised_picture p w h s f) w h ≡ cond (is_over (found (denoised_picture p w h s f) w h)) 6 0
+  pub search_six : (r : Room) → stages_refusal p r ≡ 0 → find_refusal (denoised_picture p) w h ≡ cond (is_over (found (denoised_picture p) w h)) 6 0
   unfolding stages_refusal find_refusal short_bits
-  search_six len gray bits denoised work e =
+  search_six r e =
       let p1 = first_passes (zero_side w h) 0 _ e in
       let p2 = first_passes (large_side w h) 1 _ p1.1 in
-      let k : ltb (length (denoised_picture p w h s f)) (bytes_of (w * h)) ≡ false = le-ltb (length (denoised_picture p w h s f)) (bytes_of (w * h)) (omega (arith, length_denoised p w h s f)) in
+      let k : ltb (length (denoised_picture p)) (bytes_of (w * h)) ≡ false = le-ltb (length (denoised_picture p)) (bytes_of (w * h)) (omega (arith, length_denoised p)) in
       simp (p1.0, p2.0, k)
 
-  pub six_is_left : (len gray bits denoised : ℕ) (work : List ℕ) → stages_refusal len w h s f gray bits denoised work ≡ 0
-      → number_of (chain_of p w h s f) ≡ cond (is_over (found (denoised_picture p w h s f) w h)) 6 0
+  pub six_is_left : (r : Room) → stages_refusal p r ≡ 0 → number_of (chain_of p) ≡ cond (is_over (found (denoised_picture p) w h)) 6 0
   unfolding chain_of
-  six_is_left len gray bits denoised work e = detect_number (denoised_picture p w h s f) w h ∙ search_six len gray bits denoised work e
+  six_is_left r e = detect_number (denoised_picture p) w h ∙ search_six r e
 
-  pub detection_bytes_lem : length (firmware_bytes (table_in (chain_of p w h s f))) ≡ firmware_size
+  pub detection_bytes_lem : length (firmware_bytes (table_in (chain_of p))) ≡ firmware_size
   unfolding chain_of
-  detection_bytes_lem = answer_bytes (denoised_picture p w h s f) w h
+  detection_bytes_lem = answer_bytes (denoised_picture p) w h
 
-  pub uncut_chain : NoneCut (denoised_picture p w h s f) w h → chain_of p w h s f ≡ published_detect (denoised_picture p w h s f) w h
+  pub uncut_chain : NoneCut (denoised_picture p) w h → chain_of p ≡ published_detect (denoised_picture p) w h
   unfolding chain_of
-  uncut_chain u = uncut_detect (denoised_picture p w h s f) w h u
+  uncut_chain u = uncut_detect (denoised_picture p) w h u
 
   -- of `chain` and `plate_chain`, whatever checks they make before a byte is written
-  pub chain_graded : (cs : List Check) → AllGraded (finders_of (denoised_picture p w h s f) w h) (table_in (behind cs (chain_of p w h s f)))
+  pub chain_graded : (cs : List Check) → AllGraded (finders_of (denoised_picture p) w h) (table_in (behind cs (chain_of p)))
   unfolding chain_of
   chain_graded cs =
-      let fs = finders_of (denoised_picture p w h s f) w h in
-      behind_holds (λ a. AllGraded fs (table_in a)) cs (chain_of p w h s f) (λ r. none_graded fs) (detect_graded (denoised_picture p w h s f) w h)
+      let fs = finders_of (denoised_picture p) w h in
+      behind_holds (λ a. AllGraded fs (table_in a)) cs (chain_of p) (λ r. none_graded fs) (detect_graded (denoised_picture p) w h)
 
   -- no detection of theirs has a lens (document 02, N12), so that the eight numbers of the firmware's bytes and of the listing say all
-  pub chain_plain : (cs : List Check) → Each WithoutLens (table_in (behind cs (chain_of p w h s f))).at
+  pub chain_plain : (cs : List Check) → Each WithoutLens (table_in (behind cs (chain_of p))).at
   unfolding chain_of
-  chain_plain cs = behind_holds (λ a. Each WithoutLens (table_in a).at) cs (chain_of p w h s f) (λ r. none-plain) (detect_plain (denoised_picture p w h s f) w h)
+  chain_plain cs = behind_holds (λ a. Each WithoutLens (table_in a).at) cs (chain_of p) (λ r. none-plain) (detect_plain (denoised_picture p) w h)

@@ -3,12 +3,12 @@
 
 ghost use Rattle.std.specs.Prelude.{◌≡◌};
 ghost use Rattle.lcr_core.specs.Outcome.{number_of};
-ghost use Rattle.stages.specs.Lent.{LeftAfter, HoldsSame};
-ghost use Rattle.chain.specs.Lent.{answer_with};
+ghost use Rattle.stages.specs.Lent.{picture_in, room_in, LeftAfter, SameSlices};
+ghost use Rattle.chain.specs.Chain.{whole_answer};
 
 use binary::picture::LentBits;
 use candidates::Detections;
-use image::gray::LentPixels;
+use gray::LentPixels;
 use lcr_core::Refusal;
 use stages::Slices;
 
@@ -17,9 +17,9 @@ pub mod entry;
 // Gray conversion, black and white conversion, denoising and the detections of the denoised bits. Refusals 1 to 5 come before a byte is written; after 6,
 // too many finders, the lent slices hold what they hold after 0.
 pub fn chain(pixels: LentPixels<'_>, slices: &mut Slices<'_, '_>) -> Result<Detections, Refusal>
-    ensures answer { result ≡ answer_with pixels.entry slices.old }
-    ensures same { HoldsSame slices.old slices.new }
-    ensures left { LeftAfter (number_of result) pixels.entry slices.old slices.new }
+    ensures answer { result ≡ whole_answer (picture_in pixels.entry) (room_in slices.old) }
+    ensures same { SameSlices slices.old slices.new }
+    ensures left { LeftAfter (number_of result) (picture_in pixels.entry) slices.old slices.new }
 {
     stages::stages(pixels, slices)?;
     // Lent by `&` it would not be known to stay as it is.

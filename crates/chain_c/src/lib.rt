@@ -1,11 +1,13 @@
 // The whole chain and the preview for the unit's firmware, which is C: numbers as themselves, a slice as its pointer and its length (include/sirvoltha.h).
 #![tactic(auto)]
 
-ghost use Rattle.std.specs.Prelude.{◌≡◌, ◌∷◌, []};
+ghost use Rattle.std.specs.Prelude.{◌≡◌, ◌∷◌, [], length};
 ghost use Rattle.lcr_core.specs.Outcome.{number_of};
-ghost use Rattle.stages.specs.Pictures.{gray_after, bits_after, denoised_after, means_after, least_after, greatest_after, edges_after, nears_after};
+ghost use Rattle.stages.specs.Pictures.{as_picture, gray_picture, bit_picture, denoised_picture};
+ghost use Rattle.stages.specs.Pictures.{block_means, block_least, block_greatest, edge_marks, near_marks, left_after};
+ghost use Rattle.stages.specs.Stages.{room_of};
 ghost use Rattle.chain.specs.Chain.{entry_answer, detections_after};
-ghost use Rattle.preview.specs.Preview.{preview_entry, list_after};
+ghost use Rattle.preview.specs.Preview.{preview_entry_answer, list_after};
 
 // The chain, and its detections as bytes in `detections`. Refusals 1 to 5 come before a byte is written; after 6, too many finders, all but `detections`
 // is as after 0.
@@ -26,17 +28,19 @@ pub extern "C" fn plate_chain(
     nears: &mut [u8],
     detections: &mut [u8],
 ) -> u8
-    ensures refusal { result ≡ number_of (entry_answer picture.now width height stride format gray.old bits.old denoised.old
-        (means.old ∷ least.old ∷ greatest.old ∷ edges.old ∷ nears.old ∷ []) detections.old) }
-    ensures gray { gray.new ≡ gray_after result picture.now width height stride format gray.old }
-    ensures bits { bits.new ≡ bits_after result picture.now width height stride format bits.old }
-    ensures denoised { denoised.new ≡ denoised_after result picture.now width height stride format denoised.old }
-    ensures means { means.new ≡ means_after result picture.now width height stride format means.old }
-    ensures least { least.new ≡ least_after result picture.now width height stride format least.old }
-    ensures greatest { greatest.new ≡ greatest_after result picture.now width height stride format greatest.old }
-    ensures edges { edges.new ≡ edges_after result picture.now width height stride format edges.old }
-    ensures nears { nears.new ≡ nears_after result picture.now width height stride format nears.old }
-    ensures detections { detections.new ≡ detections_after result picture.now width height stride format detections.old }
+    ensures refusal { let p = as_picture picture.now width height stride format in
+        let r = room_of gray.old bits.old denoised.old (means.old ∷ least.old ∷ greatest.old ∷ edges.old ∷ nears.old ∷ []) in
+        result ≡ number_of (entry_answer p r (length detections.old)) }
+    ensures left { let p = as_picture picture.now width height stride format in
+        (gray.new ≡ left_after result (gray_picture p) gray.old)
+        × (bits.new ≡ left_after result (bit_picture p) bits.old)
+        × (denoised.new ≡ left_after result (denoised_picture p) denoised.old)
+        × (means.new ≡ left_after result (block_means p) means.old)
+        × (least.new ≡ left_after result (block_least p) least.old)
+        × (greatest.new ≡ left_after result (block_greatest p) greatest.old)
+        × (edges.new ≡ left_after result (edge_marks p) edges.old)
+        × (nears.new ≡ left_after result (near_marks p) nears.old)
+        × (detections.new ≡ detections_after result p detections.old) }
 {
     chain::entry::plate_chain(
         picture, width, height, stride, format, gray, bits, denoised, means, least, greatest,
@@ -63,17 +67,19 @@ pub extern "C" fn plate_preview(
     nears: &mut [u8],
     list: &mut [u8],
 ) -> u8
-    ensures refusal { result ≡ number_of (preview_entry picture.now width height stride format gray.old bits.old denoised.old
-        (means.old ∷ least.old ∷ greatest.old ∷ edges.old ∷ nears.old ∷ []) list.old) }
-    ensures gray { gray.new ≡ gray_after result picture.now width height stride format gray.old }
-    ensures bits { bits.new ≡ bits_after result picture.now width height stride format bits.old }
-    ensures denoised { denoised.new ≡ denoised_after result picture.now width height stride format denoised.old }
-    ensures means { means.new ≡ means_after result picture.now width height stride format means.old }
-    ensures least { least.new ≡ least_after result picture.now width height stride format least.old }
-    ensures greatest { greatest.new ≡ greatest_after result picture.now width height stride format greatest.old }
-    ensures edges { edges.new ≡ edges_after result picture.now width height stride format edges.old }
-    ensures nears { nears.new ≡ nears_after result picture.now width height stride format nears.old }
-    ensures list { list.new ≡ list_after result picture.now width height stride format list.old }
+    ensures refusal { let p = as_picture picture.now width height stride format in
+        let r = room_of gray.old bits.old denoised.old (means.old ∷ least.old ∷ greatest.old ∷ edges.old ∷ nears.old ∷ []) in
+        result ≡ number_of (preview_entry_answer p r (length list.old)) }
+    ensures left { let p = as_picture picture.now width height stride format in
+        (gray.new ≡ left_after result (gray_picture p) gray.old)
+        × (bits.new ≡ left_after result (bit_picture p) bits.old)
+        × (denoised.new ≡ left_after result (denoised_picture p) denoised.old)
+        × (means.new ≡ left_after result (block_means p) means.old)
+        × (least.new ≡ left_after result (block_least p) least.old)
+        × (greatest.new ≡ left_after result (block_greatest p) greatest.old)
+        × (edges.new ≡ left_after result (edge_marks p) edges.old)
+        × (nears.new ≡ left_after result (near_marks p) nears.old)
+        × (list.new ≡ list_after result p list.old) }
 {
     preview::entry::plate_preview(
         picture, width, height, stride, format, gray, bits, denoised, means, least, greatest,

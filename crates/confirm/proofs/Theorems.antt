@@ -12,8 +12,8 @@ use Rattle.binary.specs.declared.line.End.TheVariants.{Change, Edge, Limit}
 use Rattle.binary.proofs.Ends.{end_of, before_end, after_end}
 use Rattle.std.specs.Prelude.{Option, Some, None, option_and_then}
 use Rattle.std.specs.Option.{option_map_or}
-use Rattle.transform.specs.declared.Point.{Point}
-use Rattle.confirm.specs.Confirm.{limit_of, is_cut, side_before, side_after, any_cut, counted_of, core_of, vertical_by, horizontal_by, row_by, column_by, confirmed_by, confirmed_on}
+use Rattle.lcr_core.specs.declared.point.Point.{Point}
+use Rattle.confirm.specs.Confirm.{confirm_limit, is_cut, side_before, side_after, any_cut, counted_of, core_of, vertical_by, horizontal_by, row_by, column_by, confirmed_by, confirmed_on}
 use Rattle.confirm.specs.Published.{counted_on, cut_down, cut_across, row_cut, column_cut, cut_on}
 
 -- one confirmation: about a dark pixel (d), with a run that was cut (c), by document 000 at k
@@ -39,15 +39,15 @@ module _ (bits : List ℕ) (w h : ℕ) where
   unfolding row_by vertical_by horizontal_by core_of row_cut
   row_dropped y centre m =
       let x = to_unsigned 32 centre in
-      by_two (dark_at bits w h x y) (cut_down bits w h x y m) (counted_of (column bits w x) h y (limit_of m)) (λ v. dark_at bits w h x (to_unsigned 32 v)) (λ v. cut_across bits w h x (to_unsigned 32 v) m)
-      (λ v. counted_of (row bits w (to_unsigned 32 v)) w x (limit_of m)) (λ cy cx. Some (record { x = cx; y = cy }))
+      by_two (dark_at bits w h x y) (cut_down bits w h x y m) (counted_of (column bits w x) h y (confirm_limit m)) (λ v. dark_at bits w h x (to_unsigned 32 v)) (λ v. cut_across bits w h x (to_unsigned 32 v) m)
+      (λ v. counted_of (row bits w (to_unsigned 32 v)) w x (confirm_limit m)) (λ cy cx. Some (record { x = cx; y = cy }))
 
   column_dropped : (x : ℕ) (centre m : Float) → column_by core_of bits w h x centre m ≡ cond (column_cut bits w h x centre m) None (column_by counted_of bits w h x centre m)
   unfolding column_by vertical_by horizontal_by core_of column_cut
   column_dropped x centre m =
       let y = to_unsigned 32 centre in
-      by_two (dark_at bits w h x y) (cut_across bits w h x y m) (counted_of (row bits w y) w x (limit_of m)) (λ v. dark_at bits w h (to_unsigned 32 v) y) (λ v. cut_down bits w h (to_unsigned 32 v) y m)
-      (λ v. counted_of (column bits w (to_unsigned 32 v)) h y (limit_of m)) (λ cx cy. Some (record { x = cx; y = cy }))
+      by_two (dark_at bits w h x y) (cut_across bits w h x y m) (counted_of (row bits w y) w x (confirm_limit m)) (λ v. dark_at bits w h (to_unsigned 32 v) y) (λ v. cut_down bits w h (to_unsigned 32 v) y m)
+      (λ v. counted_of (column bits w (to_unsigned 32 v)) h y (confirm_limit m)) (λ cx cy. Some (record { x = cx; y = cy }))
 
   -- on row n, or on column n
   pub cut_dropped : (columns : Bool) (n : ℕ) (centre m : Float)

@@ -1,9 +1,8 @@
--- How a hit is confirmed (document 01, "Finding and ranking": "A row hit is confirmed down, then across, a column hit across, then down, each run
--- stopping after 5 × module (truncated) + 4 pixels"; document 02, N7: "A finder hit with a run ended by the limit in either confirmation is dropped").
--- Definitions only.
+-- To be believed. How a hit is confirmed (document 01, "Finding and ranking": "A row hit is confirmed down, then across, a column hit across, then down, each
+-- run stopping after 5 × module (truncated) + 4 pixels"; document 02, N7: "A finder hit with a run ended by the limit in either confirmation is dropped").
 use Rattle.std.specs.Prelude.{ℕ, ◌+◌, ◌-◌, Bool, true, false, cond, ◌||◌, List, Float, Option, Some, None, option_map, option_and_then}
 use Rattle.std.specs.Float.Ieee.{to_unsigned}
-use Rattle.float.specs.Steps.{plus32, times32, over32, whole32}
+use Rattle.float.specs.Steps.{◌⊕◌, ◌⊗◌, ◌⊘◌, whole32}
 use Rattle.float.specs.Constants.{f2, f5}
 use Rattle.binary.specs.Binary.{dark_at}
 use Rattle.binary.specs.Line.{row, column, run_before, run_after, limited_before, limited_after}
@@ -11,12 +10,12 @@ use Rattle.binary.specs.declared.line.End.{End}
 use Rattle.binary.specs.declared.line.End.TheVariants.{Change, Edge, Limit}
 use Rattle.binary.specs.declared.line.Run.{Run}
 use Rattle.ratio.specs.Ratio.{match_of}
-use Rattle.transform.specs.declared.Point.{Point}
+use Rattle.lcr_core.specs.declared.point.Point.{Point}
 use Rattle.confirm.specs.declared.Side.{Side}
 
 -- 5 × module (truncated) + 4
-abbrev pub limit_of : Float → ℕ
-limit_of m = to_unsigned 32 (times32 m f5) + 4
+abbrev pub confirm_limit : Float → ℕ
+confirm_limit m = to_unsigned 32 (m ⊗ f5) + 4
 
 -- whether the limit ended a run
 abbrev pub is_cut : End → Bool
@@ -25,20 +24,20 @@ is_cut Edge = false
 is_cut Limit = true
 
 -- the light run beyond a core and the dark run beyond that, and whether the limit ended one of them
-abbrev pub side_of : Run → Run → Side
-side_of light dark = record { light = light.count; dark = dark.count; cut = is_cut light.end || is_cut dark.end }
+abbrev pub side_by : Run → Run → Side
+side_by light dark = record { light = light.count; dark = dark.count; cut = is_cut light.end || is_cut dark.end }
 
 -- of a core that starts at pixel i, and of one that ends before it
 unfoldable pub side_before : (ℕ → Bool) → ℕ → ℕ → Side
-side_before f limit i = let light = limited_before false f limit i in side_of light (limited_before true f limit (i - light.count))
+side_before f limit i = let light = limited_before false f limit i in side_by light (limited_before true f limit (i - light.count))
 
 unfoldable pub side_after : (ℕ → Bool) → ℕ → ℕ → ℕ → Side
-side_after f len limit i = let light = limited_after false f len limit i in side_of light (limited_after true f len limit (i + light.count))
+side_after f len limit i = let light = limited_after false f len limit i in side_by light (limited_after true f len limit (i + light.count))
 
 -- the centre of a core of so many pixels from pixel `top` on, between two sides, where the runs pass
-unfoldable pub centre_of : Side → ℕ → Side → ℕ → Option Float
-centre_of a core b top =
-    option_map (λ pitch. plus32 (whole32 top) (over32 (whole32 core) f2)) (match_of a.dark a.light core b.light b.dark)
+unfoldable pub core_centre : Side → ℕ → Side → ℕ → Option Float
+core_centre a core b top =
+    option_map (λ m. whole32 top ⊕ whole32 core ⊘ f2) (match_of a.dark a.light core b.light b.dark)
 
 -- a rule for the centre of the core about pixel i of a line f of len pixels, where each run stops at a limit
 abbrev pub Rule : Type 0
@@ -49,7 +48,7 @@ unfoldable pub counted_of : Rule
 counted_of f len i limit =
     let up = run_before true f limit i in
     let down = run_after true f len limit (i + 1) in
-    centre_of (side_before f limit (i - up)) (up + down + 1) (side_after f len limit (i + 1 + down)) (i - up)
+    core_centre (side_before f limit (i - up)) (up + down + 1) (side_after f len limit (i + 1 + down)) (i - up)
 
 -- whether the limit ended one of the six runs: the core's on either side of pixel i, and the light and the dark one beyond it on both sides
 unfoldable pub any_cut : (ℕ → Bool) → ℕ → ℕ → ℕ → Bool
@@ -66,10 +65,10 @@ core_of f len i limit = cond (any_cut f len i limit) None (counted_of f len i li
 module _ (rule : Rule) (bits : List ℕ) (width height : ℕ) where
   -- down column x about row y, and across row y about column x
   unfoldable pub vertical_by : ℕ → ℕ → Float → Option Float
-  vertical_by x y m = cond (dark_at bits width height x y) (rule (column bits width x) height y (limit_of m)) None
+  vertical_by x y m = cond (dark_at bits width height x y) (rule (column bits width x) height y (confirm_limit m)) None
 
   unfoldable pub horizontal_by : ℕ → ℕ → Float → Option Float
-  horizontal_by x y m = cond (dark_at bits width height x y) (rule (row bits width y) width x (limit_of m)) None
+  horizontal_by x y m = cond (dark_at bits width height x y) (rule (row bits width y) width x (confirm_limit m)) None
 
   -- a hit with its centre at x on row y is confirmed down, then across
   unfoldable pub row_by : ℕ → Float → Float → Option Point

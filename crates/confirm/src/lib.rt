@@ -3,11 +3,11 @@
 
 ghost use Rattle.std.specs.Prelude.{◌≡◌, ◌+◌, ◌≤◌, ◌<◌};
 ghost use Rattle.binary.specs.Line.{pixel};
-ghost use Rattle.confirm.specs.Confirm.{limit_of, is_cut, side_of, side_before, side_after, centre_of, core_of, confirm_vertical, confirm_horizontal, row_confirmed, column_confirmed, confirmed_on};
+ghost use Rattle.confirm.specs.Confirm.{confirm_limit, is_cut, side_by, side_before, side_after, core_centre, core_of, confirm_vertical, confirm_horizontal, row_confirmed, column_confirmed, confirmed_on};
 
 use binary::line::{End, Line, Run};
 use binary::picture::BitPicture;
-use transform::Point;
+use lcr_core::point::Point;
 
 // The runs beyond a core on one side, and whether the limit ended one of them.
 #[derive(Clone, Copy)]
@@ -18,8 +18,8 @@ pub struct Side {
 }
 
 // The number of pixels after which a run stops.
-fn limit_of(module: f32) -> u64
-    ensures { result ≡ limit_of «module» }
+fn confirm_limit(module: f32) -> u64
+    ensures { result ≡ confirm_limit «module» }
 {
     float::to_u32(module * 5.0) as u64 + 4
 }
@@ -31,8 +31,8 @@ fn is_cut(end: End) -> bool
     end == End::Limit
 }
 
-fn side_of(light: Run, dark: Run) -> Side
-    ensures { result ≡ side_of light dark }
+fn side_by(light: Run, dark: Run) -> Side
+    ensures { result ≡ side_by light dark }
 {
     Side {
         light: light.count,
@@ -47,7 +47,7 @@ fn side_before(line: Line<'_>, from: u16, limit: u64) -> Side
 {
     let light = line.limited_back(from, limit, false);
     let dark = line.limited_back(from - light.count, limit, true);
-    side_of(light, dark)
+    side_by(light, dark)
 }
 
 #[tactic(auto, unfolding(crate::specs::Confirm::side_after))]
@@ -57,13 +57,13 @@ fn side_after(line: Line<'_>, from: u16, limit: u64) -> Side
 {
     let light = line.limited_on(from, limit, false);
     let dark = line.limited_on(from + light.count, limit, true);
-    side_of(light, dark)
+    side_by(light, dark)
 }
 
 // The centre of a core of so many pixels that starts at pixel `top`, where the runs pass.
-#[tactic(auto, unfolding(crate::specs::Confirm::centre_of))]
-fn centre_of(a: Side, core: u16, b: Side, top: u16) -> Option<f32>
-    ensures { result ≡ centre_of a core b top }
+#[tactic(auto, unfolding(crate::specs::Confirm::core_centre))]
+fn core_centre(a: Side, core: u16, b: Side, top: u16) -> Option<f32>
+    ensures { result ≡ core_centre a core b top }
 {
     ratio::matches_finder(a.dark, a.light, core, b.light, b.dark)?;
     Some(top as f32 + core as f32 / 2.0)
@@ -73,9 +73,9 @@ fn centre_of(a: Side, core: u16, b: Side, top: u16) -> Option<f32>
 #[tactic(auto, unfolding(crate::specs::Confirm::any_cut, crate::specs::Confirm::counted_of, crate::specs::Confirm::core_of))]
 fn core_on(line: Line<'_>, i: u16, module: f32) -> Option<f32>
     requires { i < line.len }
-    ensures { let l = line.entry in result ≡ core_of (pixel l.bits.now l.start l.stride) l.len i (limit_of «module») }
+    ensures { let l = line.entry in result ≡ core_of (pixel l.bits.now l.start l.stride) l.len i (confirm_limit «module») }
 {
-    let limit = limit_of(module);
+    let limit = confirm_limit(module);
     let up = line.limited_back(i, limit, true);
     let down = line.limited_on(i + 1, limit, true);
     let core = up.count + down.count + 1;
@@ -85,7 +85,7 @@ fn core_on(line: Line<'_>, i: u16, module: f32) -> Option<f32>
     if is_cut(up.end) | is_cut(down.end) | a.cut | b.cut {
         return None;
     }
-    centre_of(a, core, b, top)
+    core_centre(a, core, b, top)
 }
 
 // The finder's y on column x, about row y.

@@ -10,13 +10,13 @@ use lib.ListN.{get_or}
 use Rattle.lists.specs.Lists.{Each, count, folded, sum_to, those, flat_map}
 use Rattle.binary.specs.Binary.{bit, dark_bit, dark_at}
 use Rattle.binary.specs.Line.{row, column}
-use Rattle.image.specs.Denoise.{inside, votes, denoised_at}
+use Rattle.denoise.specs.Denoise.{inside, votes, denoised_at}
 use Rattle.std.specs.Prelude.{None}
 use Rattle.confirm.specs.Confirm.{core_of, vertical_by, horizontal_by, row_by, column_by, confirmed_by, confirmed_on}
 use Rattle.finders.specs.Held.{held}
 use Rattle.finders.specs.Hits.{Hit, line_hits}
 use Rattle.finders.specs.Search.{every_second, seen, row_sightings_by, column_sightings_by, sightings_by, found_by, sightings, found}
-use Rattle.finders.specs.Rank as rank
+use Rattle.finders.specs.Rank.{by_confirmations}
 use Rattle.finders.specs.Answer.{finders_of}
 use Rattle.ranking.specs.Ranking.{enumerated, of_rank, best, ranked}
 use Rattle.candidates.specs.Candidates.{detections_of}
@@ -65,7 +65,7 @@ module _ (b : List ℕ) (w h : ℕ) (e : Each (λ v. v ≡ 0) b) where
   not_confirmed false n centre m = simp (light_pixel b w h e)
 
   not_seen : (columns : Bool) (n : ℕ) (t : Hit) → seen b w h columns n t ≡ []
-  not_seen columns n t = rw (not_confirmed columns n t.centre t.pitch)
+  not_seen columns n t = rw (not_confirmed columns n t.centre t.«module»)
 
   no_sighting : sightings b w h ≡ []
   unfolding sightings_by
@@ -79,5 +79,5 @@ module _ (b : List ℕ) (w h : ℕ) (e : Each (λ v. v ≡ 0) b) where
   none_found = rw no_sighting
 
   pub no_detection : detections_of b w h (finders_of b w h) ≡ []
-  unfolding detections_of rank.ranked ranked best of_rank enumerated those folded flat_map count
+  unfolding detections_of by_confirmations ranked best of_rank enumerated those folded flat_map count
   no_detection = rw none_found

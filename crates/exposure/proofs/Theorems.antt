@@ -1,7 +1,8 @@
 -- A brighter or darker exposure moves no fix (document 02, N6), and a picture without marks is blank at every exposure. Assumes nothing.
+use Rattle.std.proofs.lemmas.Bool.{or_parts}
 use mathlib.Core.Path.{◌≡◌, refl, sym, ap, ◌∙◌}
 use mathlib.Core.Bool.{◌||◌}
-use mathlib.Core.List.{List, [], ◌∷◌, map}
+use mathlib.Core.List.{List, [], ◌∷◌}
 use Prim.Native.Nat.{ℕ, zero, suc, ◌+◌, ◌-◌, ◌*◌, ◌≤◌, ◌<◌}
 use native.Mathlib.Nat.{mul-le-mul_right}
 use native.Mathlib.Omega.{arith}
@@ -11,12 +12,12 @@ use borrow.Author.Tests.{ltb-false}
 use Rattle.lists.proofs.Filters.{each_get_or}
 use Rattle.lcr_core.specs.Outcome.{zero_side, large_side}
 use Rattle.lcr_core.specs.Passed.{Sides}
-use Rattle.lcr_core.proofs.Checks.{or_false, first_passes, sides_pass}
-use Rattle.blocks.specs.Blocks.{at}
-use Rattle.image.specs.Gray.{unknown_format, short_picture}
-use Rattle.stages.specs.Stages.{stages_refusal, refusal_of}
+use Rattle.lcr_core.proofs.Checks.{first_passes, sides_pass}
+use Rattle.lists.specs.Lists.{at}
+use Rattle.gray.specs.Gray.{unknown_format, short_picture}
+use Rattle.stages.specs.Stages.{Room, room_of, stages_refusal}
 use Rattle.stages.specs.Pictures.{bit_picture}
-use Rattle.exposure.specs.Exposure.{gray8, brighter, NoneAbove, darker, NoneBelow, Brighter, SameFix, Unmarked, Blank}
+use Rattle.exposure.specs.Exposure.{as_gray8, brighter, NoneAbove, darker, NoneBelow, Brighter, SameFix, Unmarked, Blank}
 use Rattle.exposure.proofs.Calls.{denoised_same, chain_same, same_fix}
 use Rattle.exposure.proofs.Pictures.{bits_same, unmarked_bits, unmarked_denoised, unmarked_answer}
 
@@ -26,14 +27,15 @@ pub record Whole (w h s len : ℕ) : Type 0 where
   pub bytes : (h - 1) * s + w ≤ len
 
 -- where the stages refuse nothing
-whole : (len w h s gray bits denoised : ℕ) (work : List ℕ) → stages_refusal len w h s gray8 gray bits denoised work ≡ 0 → Whole w h s len
+whole : (p : List ℕ) (w h s : ℕ) (r : Room) → stages_refusal (as_gray8 p w h s) r ≡ 0 → Whole w h s (length p)
 unfolding stages_refusal short_picture
-whole len w h s gray bits denoised work e =
+whole p w h s r e =
+    let len = length p in
     let p1 = first_passes (zero_side w h) 0 _ e in
     let p2 = first_passes (large_side w h) 1 _ p1.1 in
-    let p3 = first_passes (unknown_format gray8) 2 _ p2.1 in
+    let p3 = first_passes (unknown_format 1) 2 _ p2.1 in
     let p4 = first_passes (ltb s (w * 1) || ltb len ((h - 1) * s + w * 1)) 3 _ p3.1 in
-    let q = or_false (ltb s (w * 1)) (ltb len ((h - 1) * s + w * 1)) p4.0 in
+    let q = or_parts (ltb s (w * 1)) (ltb len ((h - 1) * s + w * 1)) p4.0 in
     record { sides = sides_pass w h p1.0 p2.0; bytes = omega (arith, ltb-false len ((h - 1) * s + w * 1) q.1) }
 
 -- ---- k more in every byte
@@ -51,7 +53,8 @@ brighter_is k p w h s above l =
       most = λ x y a b. omega (arith, at_more k p (y * s + x) (there x y a b), each_get_or _ p (y * s + x) 0 above (there x y a b));
     }
 
-brighter_bits : (k : ℕ) (p : List ℕ) (w h s : ℕ) → NoneAbove k p → Whole w h s (length p) → bit_picture (brighter k p) w h s gray8 ≡ bit_picture p w h s gray8
+brighter_bits : (k : ℕ) (p : List ℕ) (w h s : ℕ) → NoneAbove k p → Whole w h s (length p)
+    → bit_picture (as_gray8 (brighter k p) w h s) ≡ bit_picture (as_gray8 p w h s)
 brighter_bits k p w h s above a = bits_same k p (brighter k p) w h s a.sides (brighter_is k p w h s above a.bytes)
 
 -- ---- k less in every byte: k more gives the picture back
@@ -63,14 +66,16 @@ none_above : (k : ℕ) (p : List ℕ) → NoneBelow k p → NoneAbove k (darker 
 none_above k [] e = tt
 none_above k (b ∷ p) e = (omega (arith, e.0.0, e.0.1), none_above k p e.1)
 
-darker_bits : (k : ℕ) (p : List ℕ) (w h s : ℕ) → NoneBelow k p → Whole w h s (length p) → bit_picture (darker k p) w h s gray8 ≡ bit_picture p w h s gray8
+darker_bits : (k : ℕ) (p : List ℕ) (w h s : ℕ) → NoneBelow k p → Whole w h s (length p)
+    → bit_picture (as_gray8 (darker k p) w h s) ≡ bit_picture (as_gray8 p w h s)
 darker_bits k p w h s below a =
-    sym (brighter_bits k (darker k p) w h s (none_above k p below) (rw (length-map p (λ b. b - k)) a)) ∙ ap (λ (q : List ℕ). bit_picture q w h s gray8) (back k p below)
+    sym (brighter_bits k (darker k p) w h s (none_above k p below) (rw (length-map p (λ b. b - k)) a))
+    ∙ ap (λ (q : List ℕ). bit_picture (as_gray8 q w h s)) (back k p below)
 
 -- ---- calls on pictures of w × h pixels in rows of s bytes, with the same slices lent
 module _ (w h s : ℕ) (gray bits denoised : List ℕ) (work : List (List ℕ)) where
-  accepted : (p : List ℕ) → refusal_of p w h s gray8 gray bits denoised work ≡ 0 → Whole w h s (length p)
-  accepted p = whole (length p) w h s (length gray) (length bits) (length denoised) (map length work)
+  accepted : (p : List ℕ) → stages_refusal (as_gray8 p w h s) (room_of gray bits denoised work) ≡ 0 → Whole w h s (length p)
+  accepted p = whole p w h s (room_of gray bits denoised work)
 
   -- a brighter exposure moves no fix
   pub brighter_exposure : (k : ℕ) (p detections : List ℕ) → NoneAbove k p → SameFix w h s gray bits denoised work detections p (brighter k p)
@@ -88,20 +93,21 @@ module _ (w h s : ℕ) (gray bits denoised : List ℕ) (work : List (List ℕ)) 
       same_fix p q w h s gray bits denoised work detections b.bytes (λ z. bits_same k p q w h s (accepted p z).sides b)
 
   -- a picture without marks, which is not refused by 1 to 5, is blank at either exposure
-  blank : (p q : List ℕ) → refusal_of p w h s gray8 gray bits denoised work ≡ 0 → bit_picture q w h s gray8 ≡ bit_picture p w h s gray8 → Unmarked p w h s
+  blank : (p q : List ℕ) → stages_refusal (as_gray8 p w h s) (room_of gray bits denoised work) ≡ 0
+      → bit_picture (as_gray8 q w h s) ≡ bit_picture (as_gray8 p w h s) → Unmarked p w h s
       → Blank p w h s × Blank q w h s
   blank p q z e u =
       let dark = unmarked_bits p w h s u in
       let noise = unmarked_denoised p w h s u in
-      let found = unmarked_answer p w h s (length p) (length gray) (length bits) (length denoised) (map length work) z u in (
+      let found = unmarked_answer p w h s (room_of gray bits denoised work) z u in (
         record { bits = dark; denoised = noise; answer = found },
         record { bits = rw e dark; denoised = rw (denoised_same p q w h s e) noise; answer = chain_same p q w h s e ∙ found },
       )
 
-  pub brighter_unmarked : (k : ℕ) (p : List ℕ) → NoneAbove k p → refusal_of p w h s gray8 gray bits denoised work ≡ 0 → Unmarked p w h s
+  pub brighter_unmarked : (k : ℕ) (p : List ℕ) → NoneAbove k p → stages_refusal (as_gray8 p w h s) (room_of gray bits denoised work) ≡ 0 → Unmarked p w h s
       → Blank p w h s × Blank (brighter k p) w h s
   brighter_unmarked k p above z = blank p (brighter k p) z (brighter_bits k p w h s above (accepted p z))
 
-  pub darker_unmarked : (k : ℕ) (p : List ℕ) → NoneBelow k p → refusal_of p w h s gray8 gray bits denoised work ≡ 0 → Unmarked p w h s
+  pub darker_unmarked : (k : ℕ) (p : List ℕ) → NoneBelow k p → stages_refusal (as_gray8 p w h s) (room_of gray bits denoised work) ≡ 0 → Unmarked p w h s
       → Blank p w h s × Blank (darker k p) w h s
   darker_unmarked k p below z = blank p (darker k p) z (darker_bits k p w h s below (accepted p z))

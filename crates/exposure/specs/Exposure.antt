@@ -1,18 +1,18 @@
--- Other exposures of a gray picture. Document 02, N6: "add one whole number to every byte of a gray picture, none going below 0 or above 255, and the bits,
--- the denoised bits, the finders, the detections and a refusal 6 are the same. This is stated of the chain on `Gray8` pictures, for pictures without any
--- edge as well." Definitions only.
+-- To be believed. Other exposures of a gray picture. Document 02, N6: "add one whole number to every byte of a gray picture, none going below 0 or above 255,
+-- and the bits, the denoised bits, the finders, the detections and a refusal 6 are the same. This is stated of the chain on `Gray8` pictures, for pictures
+-- without any edge as well."
 use Rattle.std.specs.Prelude.{ℕ, ◌+◌, ◌-◌, ◌*◌, ◌≤◌, ◌<◌, ◌≡◌, List, [], map, length, Result, Ok}
-use Rattle.lists.specs.Lists.{Each}
-use Rattle.image.specs.Gray.{channels_of}
-use Rattle.image.specs.declared.PixelFormat.TheVariants.{Gray8}
-use Rattle.blocks.specs.Blocks.{at}
-use Rattle.stages.specs.Pictures.{bit_picture, denoised_picture, edge_marks, near_marks, bits_after, denoised_after}
+use Rattle.lists.specs.Lists.{Each, at}
+use Rattle.gray.specs.Gray.{channels_of}
+use Rattle.gray.specs.declared.format.PixelFormat.TheVariants.{Gray8}
+use Rattle.stages.specs.Pictures.{Picture, as_picture, bit_picture, denoised_picture, edge_marks, near_marks, left_after}
+use Rattle.stages.specs.Stages.{room_of}
 use Rattle.lcr_core.specs.Outcome.{number_of}
 use Rattle.lcr_core.specs.declared.Refusal.{Refusal}
 use Rattle.finders.specs.declared.Finders.{Finders}
 use Rattle.finders.specs.Answer.{answer_of}
 use Rattle.candidates.specs.declared.Detections.{Detections}
-use Rattle.candidates.specs.Candidates.{table_of}
+use Rattle.candidates.specs.Candidates.{detections_table}
 use Rattle.chain.specs.Chain.{chain_of, whole_answer, entry_answer, detections_after}
 
 -- ---- exposures of a picture p
@@ -56,31 +56,33 @@ pub record EntryFix : Type 0 where
   pub finders : Result Finders Refusal
   pub detections : List ℕ
 
--- the format byte of gray pictures
-abbrev pub gray8 : ℕ
-gray8 = channels_of Gray8
+-- the gray picture of w × h pixels in rows of s bytes that has the bytes p
+abbrev pub as_gray8 : List ℕ → ℕ → ℕ → ℕ → Picture
+as_gray8 p w h s = as_picture p w h s (channels_of Gray8)
 
--- for a picture p of w × h pixels in rows of s bytes, and the slices lent, of which `work` has the five work slices
+-- for such a picture, and the slices lent, of which `work` has the five work slices
 module _ (w h s : ℕ) (gray bits denoised : List ℕ) (work : List (List ℕ)) where
   -- of `chain`
   abbrev pub fix_of : List ℕ → Fix
   fix_of p =
-      let r = whole_answer p w h s gray8 gray bits denoised work in
+      let g = as_gray8 p w h s in
+      let r = whole_answer g (room_of gray bits denoised work) in
       let n = number_of r in
-      let d = denoised_after n p w h s gray8 denoised in
-      record { answer = r; bits = bits_after n p w h s gray8 bits; denoised = d; finders = answer_of d w h }
+      let d = left_after n (denoised_picture g) denoised in
+      record { answer = r; bits = left_after n (bit_picture g) bits; denoised = d; finders = answer_of d w h }
 
   -- of `plate_chain`, which is lent a slice of detections too
   abbrev pub entry_fix_of : List ℕ → List ℕ → EntryFix
   entry_fix_of detections p =
-      let n = number_of (entry_answer p w h s gray8 gray bits denoised work detections) in
-      let d = denoised_after n p w h s gray8 denoised in
+      let g = as_gray8 p w h s in
+      let n = number_of (entry_answer g (room_of gray bits denoised work) (length detections)) in
+      let d = left_after n (denoised_picture g) denoised in
       record {
         number = n;
-        bits = bits_after n p w h s gray8 bits;
+        bits = left_after n (bit_picture g) bits;
         denoised = d;
         finders = answer_of d w h;
-        detections = detections_after n p w h s gray8 detections;
+        detections = detections_after n g detections;
       }
 
   -- both are the same for the pictures p and q
@@ -91,10 +93,10 @@ module _ (w h s : ℕ) (gray bits denoised : List ℕ) (work : List (List ℕ)) 
 
 -- each edge mark and each near mark is 0
 abbrev pub Unmarked : List ℕ → ℕ → ℕ → ℕ → Type 0
-Unmarked p w h s = Each (λ m. m ≡ 0) (edge_marks p w h s gray8) × Each (λ m. m ≡ 0) (near_marks p w h s gray8)
+Unmarked p w h s = Each (λ m. m ≡ 0) (edge_marks (as_gray8 p w h s)) × Each (λ m. m ≡ 0) (near_marks (as_gray8 p w h s))
 
 -- nothing is dark, in the bits and in the denoised bits, and nothing is found: done, and no detection
 pub record Blank (p : List ℕ) (w h s : ℕ) : Type 0 where
-  pub bits : Each (λ b. b ≡ 0) (bit_picture p w h s gray8)
-  pub denoised : Each (λ b. b ≡ 0) (denoised_picture p w h s gray8)
-  pub answer : chain_of p w h s gray8 ≡ Ok (table_of [])
+  pub bits : Each (λ b. b ≡ 0) (bit_picture (as_gray8 p w h s))
+  pub denoised : Each (λ b. b ≡ 0) (denoised_picture (as_gray8 p w h s))
+  pub answer : chain_of (as_gray8 p w h s) ≡ Ok (detections_table [])

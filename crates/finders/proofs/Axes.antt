@@ -9,8 +9,8 @@ use Rattle.lcr_core.specs.Passed.{Sides}
 use Rattle.ratio.specs.Ratio.{match_of}
 use Rattle.confirm.specs.Confirm.{core_of, confirmed_on}
 use Rattle.std.specs.Prelude.{Option, Some, None}
-use Rattle.transform.specs.declared.Point.{Point}
-use Rattle.finders.specs.Hits.{Hit, runs, hit_if, window, hits, line_hits}
+use Rattle.lcr_core.specs.declared.point.Point.{Point}
+use Rattle.finders.specs.Hits.{Hit, runs, hit_if, five_runs, hits, line_hits}
 use Rattle.finders.specs.Held.{Sighting, Held, held, over, merge_next}
 use Rattle.finders.specs.Search.{max_finders, sighting, seen, every_second, row_sightings_by, column_sightings_by, sightings_by, found_by, found}
 use Rattle.finders.specs.Inner.{line_most, axis_most, Fine, line_count, line_len, line_at, line_sightings, scanned, scanned_at, axis}
@@ -18,8 +18,8 @@ use Rattle.finders.proofs.Folding.{folded-flat_map}
 use Rattle.finders.proofs.Tables.{over_stays, fine_mono, folded_fine}
 
 -- ---- a line of len pixels has at most len + 1 runs, and no more hits than runs
-window_one : (end a b c d e : ℕ) → length (window end a b c d e) ≤ 1
-unfolding window
+window_one : (end a b c d e : ℕ) → length (five_runs end a b c d e) ≤ 1
+unfolding five_runs
 window_one end a b c d e = go (match_of a b c d e) _
   where
     go : (m : Option Float) (x : Float) → length (hit_if m x) ≤ 1
@@ -34,7 +34,7 @@ hits-length p (a ∷ b ∷ []) = omega arith
 hits-length p (a ∷ b ∷ c ∷ []) = omega arith
 hits-length p (a ∷ b ∷ c ∷ d ∷ []) = omega arith
 hits-length p (a ∷ b ∷ c ∷ d ∷ e ∷ rest) =
-    let w = window (p + a + b + c + d + e) a b c d e in
+    let w = five_runs (p + a + b + c + d + e) a b c d e in
     omega (arith, length-append w (hits (p + a + b) (c ∷ d ∷ e ∷ rest)), window_one (p + a + b + c + d + e) a b c d e, hits-length (p + a + b) (c ∷ d ∷ e ∷ rest))
 
 runs-length : (f : ℕ → Bool) (k : Bool) (m i n : ℕ) → length (runs f k m i n) ≤ n + 1
@@ -69,9 +69,9 @@ module _ {width height : ℕ} (p : Sides width height) where
 module _ (bits : List ℕ) (width height : ℕ) where
   -- and no more confirmed hits than hits
   seen_one : (columns : Bool) (n : ℕ) (h : Hit) → length (seen bits width height columns n h) ≤ 1
-  seen_one columns n h = go (confirmed_on bits width height columns n h.centre h.pitch)
+  seen_one columns n h = go (confirmed_on bits width height columns n h.centre h.«module»)
     where
-      go : (c : Option Point) → length (sighting h.pitch c) ≤ 1
+      go : (c : Option Point) → length (sighting h.«module» c) ≤ 1
       go (Some p) = omega arith
       go None = omega arith
 
@@ -112,9 +112,9 @@ module _ (bits : List ℕ) (width height : ℕ) where
     axis_over = lines_over (range 0 ((line_count width height columns + 1) / 2))
 
   -- ---- the first hit of several, confirmed or not
-  module _ (columns : Bool) (n : ℕ) (hs : List Hit) (h : Hit) (rest : List Hit) (is : hs ≡ h ∷ rest) (c : Option Point) (z : c ≡ confirmed_on bits width height columns n h.centre h.pitch) where
+  module _ (columns : Bool) (n : ℕ) (hs : List Hit) (h : Hit) (rest : List Hit) (is : hs ≡ h ∷ rest) (c : Option Point) (z : c ≡ confirmed_on bits width height columns n h.centre h.«module») where
     pub sighted_first : (p : Point) → c ≡ Some p
-        → flat_map (seen bits width height columns n) hs ≡ record { x = p.x; y = p.y; pitch = h.pitch } ∷ flat_map (seen bits width height columns n) rest
+        → flat_map (seen bits width height columns n) hs ≡ record { x = p.x; y = p.y; «module» = h.«module» } ∷ flat_map (seen bits width height columns n) rest
     unfolding flat_map
     sighted_first p e = rw (is, ← z, e)
 

@@ -1,6 +1,5 @@
 pub mod Windows
 pub mod Places
-pub mod Within
 pub mod Folding
 pub mod Tables
 pub mod Axes

@@ -5,11 +5,11 @@ use Rattle.lists.specs.Lists.{folded}
 use Rattle.lcr_core.specs.Outcome.{number_of, zero_side, large_side}
 use Rattle.lcr_core.proofs.Answers.{number_checked}
 use Rattle.binary.specs.Refusal.{short_bits}
-use Rattle.geometry.specs.declared.Finder.{Finder}
+use Rattle.lcr_core.specs.declared.finder.Finder.{Finder}
 use Rattle.finders.specs.declared.Finders.{Finders}
 use Rattle.finders.specs.Held.{Sighting, Held, held, over, place, merge, merge_next}
 use Rattle.finders.specs.Search.{max_finders, sightings, found_by}
-use Rattle.finders.specs.Answer.{find_checks, finders_after, table_of, answer_after, answer_of}
+use Rattle.finders.specs.Answer.{find_checks, finders_after, finders_table, answer_after, answer_of}
 use Rattle.finders.specs.Limit.{found_under, answer_under}
 use Rattle.finders.proofs.Tables.{over_stays}
 
@@ -38,7 +38,7 @@ module _ (a b : ℕ) (l : a ≤ b) where
 
       go : (s : Held) → found_under a bits w h ≡ s → answer_under b bits w h ≡ Ok t
       go over p =
-          let k = sym (number_checked (find_checks (length bits) w h over) (table_of (finders_after over))) ∙ ap number_of (sym (ap (answer_after (length bits) w h) p) ∙ e) in
+          let k = sym (number_checked (find_checks (length bits) w h over) (finders_table (finders_after over))) ∙ ap number_of (sym (ap (answer_after (length bits) w h) p) ∙ e) in
           absurd (never (zero_side w h) (large_side w h) (short_bits (length bits) w h) k)
       go (held fs) p = ap (answer_after (length bits) w h) (larger_table [] fs (sightings bits w h) p ∙ sym p) ∙ e
 

@@ -6,7 +6,7 @@ use Rattle.std.specs.List.{position_or_len}
 use Rattle.std.proofs.lemmas.Grind.{common_steps}
 use Rattle.std.proofs.lemmas.List.Quantifiers.{position-Some}
 use Rattle.lists.proofs.Filters.{each_map}
-use Rattle.geometry.specs.declared.Finder.{Finder}
+use Rattle.lcr_core.specs.declared.finder.Finder.{Finder}
 use Rattle.finders.specs.Held.{Sighting, within, join, fresh, place, held, over, merge}
 use Rattle.finders.specs.Inner.{Bounded}
 
@@ -16,7 +16,7 @@ module _ (s : Sighting) where
   takes = within s.x s.y
 
   abbrev joined : Finder → Finder
-  joined = join s.x s.y s.pitch
+  joined = join s.x s.y s.«module»
 
   -- of the first finder that it is within, or the count
   abbrev first : List Finder → ℕ

@@ -10,7 +10,7 @@ use Rattle.confirm.specs.Confirm.{core_of, counted_of}
 use Rattle.confirm.specs.Published.{counted_on, cut_on}
 use Rattle.confirm.proofs.Theorems.{cut_dropped}
 use Rattle.std.specs.Prelude.{Option, Some, None}
-use Rattle.transform.specs.declared.Point.{Point}
+use Rattle.lcr_core.specs.declared.point.Point.{Point}
 use Rattle.finders.specs.Hits.{Hit, line_hits}
 use Rattle.finders.specs.Held.{Sighting, held, merge_next}
 use Rattle.finders.specs.Search.{max_finders, sighting, seen_by, row_sightings_by, column_sightings_by, sightings_by, found_by, sightings, found}
@@ -27,8 +27,8 @@ not_dropped m false None u = refl
 module _ (bits : List ℕ) (w h : ℕ) where
   seen_same : (columns : Bool) (n : ℕ) (t : Hit) → Uncut bits w h columns n t → seen_by core_of bits w h columns n t ≡ seen_by counted_of bits w h columns n t
   seen_same columns n t u =
-      ap (sighting t.pitch) (cut_dropped bits w h columns n t.centre t.pitch)
-      ∙ not_dropped t.pitch (cut_on bits w h columns n t.centre t.pitch) (counted_on bits w h columns n t.centre t.pitch) u
+      ap (sighting t.«module») (cut_dropped bits w h columns n t.centre t.«module»)
+      ∙ not_dropped t.«module» (cut_on bits w h columns n t.centre t.«module») (counted_on bits w h columns n t.centre t.«module») u
 
   line_same : (columns : Bool) (n : ℕ) (ts : List Hit) → Each (Uncut bits w h columns n) ts → flat_map (seen_by core_of bits w h columns n) ts ≡ flat_map (seen_by counted_of bits w h columns n) ts
   line_same columns n ts u =

@@ -8,24 +8,24 @@ use Rattle.lcr_core.specs.declared.Refusal.{Refusal}
 use Rattle.lcr_core.specs.declared.Refusal.TheVariants.{FullTable}
 use Rattle.lists.specs.Lists.{folded, padded}
 use Rattle.lists.proofs.Padded.{take-padded, get_or-padded, padded_more, length-padded}
-use Rattle.geometry.specs.declared.Finder.{Finder}
+use Rattle.lcr_core.specs.declared.finder.Finder.{Finder}
 use Rattle.finders.specs.declared.Finders.{Finders}
 use Rattle.finders.specs.Held.{Sighting, Held, held, over, within, join, fresh, place, merge, merge_next}
 use Rattle.finders.specs.Search.{max_finders}
-use Rattle.finders.specs.Answer.{table_of, held_in}
-use Rattle.geometry.specs.Order.{zero_finder}
+use Rattle.finders.specs.Answer.{finders_table, held_in}
+use Rattle.lcr_core.specs.Finder.{zero_finder}
 use Rattle.finders.specs.Inner.{EndsWith, Bounded, Good, Fine}
 use Rattle.finders.proofs.Places.{merge-join, merge_new, merge_over, bounded_mono, place_bounded}
 
 -- ---- a table and the list that it holds
-pub held_in_lem : (fs : List Finder) → held_in (table_of fs) ≡ fs
+pub held_in_lem : (fs : List Finder) → held_in (finders_table fs) ≡ fs
 held_in_lem fs = take-padded max_finders zero_finder fs
 
 -- of a table that holds a list, the list is the one that it holds
-ends_held : (t : Finders) (s : Held) (gs : List Finder) → t ≡ table_of gs → s ≡ held gs → (t ≡ table_of (held_in t)) × (s ≡ held (held_in t))
-ends_held t s gs e q = let h : held_in t ≡ gs = ap held_in e ∙ held_in_lem gs in (e ∙ ap table_of (sym h), q ∙ ap held (sym h))
+ends_held : (t : Finders) (s : Held) (gs : List Finder) → t ≡ finders_table gs → s ≡ held gs → (t ≡ finders_table (held_in t)) × (s ≡ held (held_in t))
+ends_held t s gs e q = let h : held_in t ≡ gs = ap held_in e ∙ held_in_lem gs in (e ∙ ap finders_table (sym h), q ∙ ap held (sym h))
 
-module _ (t : Finders) (w : t ≡ table_of (held_in t)) where
+module _ (t : Finders) (w : t ≡ finders_table (held_in t)) where
   pub held_length : length (held_in t) ≡ t.count
   held_length = sym (ap (λ (z : Finders). z.count) w)
 
@@ -43,13 +43,13 @@ module _ (t : Finders) (k : ℕ) (g : Good t k) (s : Sighting) where
   few : length (held_in t) ≤ max_finders
   few = rw (held_length t g.rest) g.few
 
-  pub merged_at : (i : ℕ) (d v : Finder) → position (within s.x s.y) (held_in t) ≡ Some i → v ≡ join s.x s.y s.pitch (get_or t.table i d)
-      → (let u : Finders = record { count = t.count; table = set t.table i v } in (u ≡ table_of (held_in u)) × (merge max_finders (held_in t) s ≡ held (held_in u)))
+  pub merged_at : (i : ℕ) (d v : Finder) → position (within s.x s.y) (held_in t) ≡ Some i → v ≡ join s.x s.y s.«module» (get_or t.table i d)
+      → (let u : Finders = record { count = t.count; table = set t.table i v } in (u ≡ finders_table (held_in u)) × (merge max_finders (held_in t) s ≡ held (held_in u)))
   merged_at i d v h w =
       let n = held_length t g.rest in
       let l : i < length (held_in t) = (position-Some (within s.x s.y) (held_in t) i d h).0 in
       let q : get_or t.table i d ≡ get_or (held_in t) i d = ap (λ z. get_or z i d) (table_is t g.rest) ∙ get_or-padded max_finders zero_finder (held_in t) i d d l in
-      let x : v ≡ join s.x s.y s.pitch (get_or (held_in t) i d) = w ∙ ap (join s.x s.y s.pitch) q in
+      let x : v ≡ join s.x s.y s.«module» (get_or (held_in t) i d) = w ∙ ap (join s.x s.y s.«module») q in
       let m = length-set (held_in t) i v in
       ends_held _ _ (set (held_in t) i v)
       (same_table t.count (length (set (held_in t) i v)) (set t.table i v) (padded max_finders zero_finder (set (held_in t) i v)) (sym (m ∙ n))
@@ -58,7 +58,7 @@ module _ (t : Finders) (k : ℕ) (g : Good t k) (s : Sighting) where
 
   module _ (h : position (within s.x s.y) (held_in t) ≡ None) where
     pub merged_new : t.count < max_finders
-        → (let u : Finders = record { count = t.count + 1; table = set t.table t.count (fresh s) } in (u ≡ table_of (held_in u)) × (merge max_finders (held_in t) s ≡ held (held_in u)))
+        → (let u : Finders = record { count = t.count + 1; table = set t.table t.count (fresh s) } in (u ≡ finders_table (held_in u)) × (merge max_finders (held_in t) s ≡ held (held_in u)))
     merged_new l =
         let n = held_length t g.rest in
         let b : length (held_in t) < max_finders = rw n l in
@@ -102,7 +102,7 @@ folded_fine s (h ∷ hs) k f =
     (folded_fine (merge_next max_finders s h) hs (k + 1) (next_fine s h k f))
 
 -- ---- the table of what is held
-pub good_of : (t : Finders) (s : Held) (k : ℕ) → t ≡ table_of (held_in t) → s ≡ held (held_in t) → Fine s k → Good t k
+pub good_of : (t : Finders) (s : Held) (k : ℕ) → t ≡ finders_table (held_in t) → s ≡ held (held_in t) → Fine s k → Good t k
 good_of t s k w e f =
     let h : Fine (held (held_in t)) k = subst (λ z. Fine z k) e f in
     record { few = omega (arith, held_length t w, h.0); rest = w; counts = h.1 }

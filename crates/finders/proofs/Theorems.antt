@@ -5,10 +5,10 @@ use Rattle.lists.specs.Lists.{Each, folded, those}
 use Rattle.lists.proofs.Filters.{each_map, those-none, those-append}
 use Rattle.lcr_core.specs.Outcome.{number_of, zero_side, large_side}
 use Rattle.binary.specs.Refusal.{short_bits, bits_refusal}
-use Rattle.geometry.specs.declared.Finder.{Finder}
+use Rattle.lcr_core.specs.declared.finder.Finder.{Finder}
 use Rattle.finders.specs.Held.{Sighting, Held, held, over, within, join, place, merge, merge_next}
 use Rattle.finders.specs.Search.{max_finders, sightings, found_by, found}
-use Rattle.finders.specs.Rank.{stays, insert, ranked}
+use Rattle.finders.specs.Rank.{stays, insert, by_confirmations}
 use Rattle.finders.specs.Answer.{is_over, find_refusal, finders_after, finders_of, answer_of}
 use Rattle.finders.proofs.Outcomes.{answer_number}
 use Rattle.finders.proofs.Tables.{over_stays}
@@ -24,7 +24,7 @@ place-length [] s = inl (refl, tt)
 place-length (f ∷ fs) s = go (within s.x s.y f) refl (place-length fs s)
   where
     go : (t : Bool) → within s.x s.y f ≡ t → ((length (place fs s) ≡ length fs + 1) × None s fs) ⊎ (length (place fs s) ≡ length fs)
-        → ((length (cond t (join s.x s.y s.pitch f ∷ fs) (f ∷ place fs s)) ≡ suc (length fs) + 1) × None s (f ∷ fs)) ⊎ (length (cond t (join s.x s.y s.pitch f ∷ fs) (f ∷ place fs s)) ≡ suc (length fs))
+        → ((length (cond t (join s.x s.y s.«module» f ∷ fs) (f ∷ place fs s)) ≡ suc (length fs) + 1) × None s (f ∷ fs)) ⊎ (length (cond t (join s.x s.y s.«module» f ∷ fs) (f ∷ place fs s)) ≡ suc (length fs))
     go true e r = inr refl
     go false e (inl r) = inl (omega (arith, r.0), (e, r.1))
     go false e (inr r) = inr (ap suc r)
@@ -141,7 +141,7 @@ folded-length gs (f ∷ fs) = omega (arith, folded-length (insert gs f) fs, inse
 
 -- of a picture: never more than there are places are given
 pub few_finders : (bits : List ℕ) (w h : ℕ) → length (finders_of bits w h) ≤ max_finders
-unfolding ranked found_by
+unfolding by_confirmations found_by
 few_finders bits w h = go (found bits w h) refl
   where
     go : (s : Held) → found bits w h ≡ s → length (finders_after s) ≤ max_finders
@@ -185,8 +185,8 @@ unfolding folded
 folded_descends gs [] d = d
 folded_descends gs (f ∷ fs) d = folded_descends (insert gs f) fs (insert_descends gs f d)
 
-most_first : (fs : List Finder) → Descending (ranked fs)
-unfolding ranked
+most_first : (fs : List Finder) → Descending (by_confirmations fs)
+unfolding by_confirmations
 most_first fs = folded_descends [] (those stays fs) tt
 
 -- ---- ties in discovery order, and nobody lost: the finders with n confirmations are those that stay and have n, in their order
@@ -229,6 +229,6 @@ folded_has n gs (f ∷ fs) d =
     ∙ append_assoc (those (has n) gs) (those (has n) (f ∷ [])) (those (has n) fs)
     ∙ ap (λ l. those (has n) gs ++ l) (sym (those-append (has n) (f ∷ []) fs))
 
-ties_in_discovery_order : (n : ℕ) (fs : List Finder) → those (has n) (ranked fs) ≡ those (has n) (those stays fs)
-unfolding ranked those
+ties_in_discovery_order : (n : ℕ) (fs : List Finder) → those (has n) (by_confirmations fs) ≡ those (has n) (those stays fs)
+unfolding by_confirmations those
 ties_in_discovery_order n fs = folded_has n [] (those stays fs) tt

@@ -5,13 +5,13 @@ use mathlib.Core.Bool.{beq, and-false}
 use native.Mathlib.Nat.{sub-zero}
 use lib.Ieee.{Float}
 use borrow.Author.Tests.{lt-leb}
-use Rattle.float.specs.Steps.{minus32, over32, whole32}
+use Rattle.float.specs.Steps.{◌⊖◌, ◌⊘◌, whole32}
 use Rattle.float.specs.Constants.{f2}
 use Rattle.binary.specs.Line.{run}
 use Rattle.ratio.specs.Ratio.{passes, near_one, match_of}
-use Rattle.finders.specs.Hits.{runs, window, hits, line_hits}
+use Rattle.finders.specs.Hits.{runs, five_runs, hits, line_hits}
 use Rattle.finders.specs.Inner.{runs_from, hits_after}
-use Rattle.finders.specs.declared.search.Window.{Window}
+use Rattle.finders.specs.declared.search.LastRuns.{LastRuns}
 
 -- ---- a run of no pixels at either end does not pass
 far_zero : (s : ℕ) → 0 < s → near_one s 0 ≡ false
@@ -64,11 +64,11 @@ after_split f k i zero h = absurd (omega arith)
 after_split f k i (suc n) h = runs_split f k 0 i (suc n) ∙ (let a : 0 + run k f i (suc n) ≡ run k f i (suc n) = omega arith in rw a)
 
 -- ---- what is left of the hits
-abbrev pub win : ℕ → ℕ → ℕ → ℕ → Window
+abbrev pub win : ℕ → ℕ → ℕ → ℕ → LastRuns
 win c d e at = record { c = c; d = d; e = e; at = at }
 
 zeros : (r : ℕ) (rest : List ℕ) → hits 0 (r ∷ rest) ≡ hits 0 (0 ∷ 0 ∷ r ∷ rest)
-unfolding hits window
+unfolding hits five_runs
 zeros r [] = refl
 zeros r (l ∷ []) = refl
 zeros r (l ∷ m ∷ rest) = rw (first_empty 0 r l m)
@@ -82,7 +82,7 @@ remaining_start f len e h =
     ∙ rw (a, ← h) (zeros e (runs_from f false e (len - e)))
     ∙ ap (λ p. hits p (0 ∷ 0 ∷ e ∷ runs_from f false e (len - e))) (sym z)
 
-pub remaining_end : (f : ℕ → Bool) (len : ℕ) (w : Window) → len ≤ w.at → hits_after f len w ≡ []
+pub remaining_end : (f : ℕ → Bool) (len : ℕ) (w : LastRuns) → len ≤ w.at → hits_after f len w ≡ []
 unfolding hits
 remaining_end f len w h = let z : len - w.at ≡ 0 = omega arith in rw z
 
@@ -97,7 +97,7 @@ pub record Turn (f : ℕ → Bool) (len c d e at l m : ℕ) : Type 0 where
 module _ {f : ℕ → Bool} {len c d e at l m : ℕ} (t : Turn f len c d e at l m) where
   -- one window more
   next_window : (rest : List ℕ) → runs_from f false at (len - at) ≡ l ∷ m ∷ rest
-      → hits (at - (c + d + e)) (c ∷ d ∷ e ∷ runs_from f false at (len - at)) ≡ window (at + l + m) c d e l m ++ hits (at + l + m - (e + l + m)) (e ∷ l ∷ m ∷ rest)
+      → hits (at - (c + d + e)) (c ∷ d ∷ e ∷ runs_from f false at (len - at)) ≡ five_runs (at + l + m) c d e l m ++ hits (at + l + m - (e + l + m)) (e ∷ l ∷ m ∷ rest)
   unfolding hits
   next_window rest g =
       let p : at - (c + d + e) + c + d + e + l + m ≡ at + l + m = omega arith in
@@ -116,15 +116,15 @@ module _ {f : ℕ → Bool} {len c d e at l m : ℕ} (t : Turn f len c d e at l 
       let z : len - (at + l) - m ≡ len - (at + l + m) = omega arith in
       one ∙ ap (λ r. l ∷ r) (after_split f true (at + l) (len - (at + l)) n ∙ rw (← t.dark, z))
 
-  at_end : at + l ≡ len → hits_after f len (win c d e at) ≡ window (at + l + m) c d e l m ++ hits_after f len (win e l m (at + l + m))
-  unfolding hits window run
+  at_end : at + l ≡ len → hits_after f len (win c d e at) ≡ five_runs (at + l + m) c d e l m ++ hits_after f len (win e l m (at + l + m))
+  unfolding hits five_runs run
   at_end g =
       let z : len - (at + l) ≡ 0 = omega arith in
       let o : m ≡ 0 = t.dark ∙ rw z in
       let y : len ≤ at + l + 0 = omega arith in
       rw (one, z, o, last_empty c d e l, remaining_end f len (win e l 0 (at + l + 0)) y)
 
-  remaining_step : hits_after f len (win c d e at) ≡ window (at + l + m) c d e l m ++ hits_after f len (win e l m (at + l + m))
+  remaining_step : hits_after f len (win c d e at) ≡ five_runs (at + l + m) c d e l m ++ hits_after f len (win e l m (at + l + m))
   remaining_step = elim (eq-or-lt_of_le t.bound) [ inl g ↦ at_end g | inr g ↦ next_window (runs_from f false (at + l + m) (len - (at + l + m))) (two g) ]
 
   -- a turn passes a pixel at least
@@ -150,10 +150,10 @@ module _ {f : ℕ → Bool} {len c d e at l m : ℕ} (t : Turn f len c d e at l 
   module _ (r : Option Float) (R : r ≡ match_of c d e l m) where
     pub hits_hit : (p : Float) → r ≡ Some p
         → hits_after f len (win c d e at)
-        ≡ record { centre = minus32 (minus32 (minus32 (whole32 (at + l + m)) (whole32 m)) (whole32 l)) (over32 (whole32 e) f2); pitch = p } ∷ hits_after f len (win e l m (at + l + m))
-    unfolding window
+        ≡ record { centre = whole32 (at + l + m) ⊖ whole32 m ⊖ whole32 l ⊖ whole32 e ⊘ f2; «module» = p } ∷ hits_after f len (win e l m (at + l + m))
+    unfolding five_runs
     hits_hit p g = remaining_step ∙ rw (← R, g)
 
     pub hits_skip : r ≡ None → hits_after f len (win c d e at) ≡ hits_after f len (win e l m (at + l + m))
-    unfolding window
+    unfolding five_runs
     hits_skip g = remaining_step ∙ rw (← R, g)

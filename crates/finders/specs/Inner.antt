@@ -1,4 +1,4 @@
--- The search as the code has it. For contracts of inner functions, and for proofs.
+-- For inner contracts and proofs. The search as the code has it.
 use Rattle.std.specs.Prelude.{◌≡◌, ℕ, zero, suc, ◌+◌, ◌-◌, ◌*◌, ◌/◌, ◌<◌, ◌≤◌, Bool, true, false, cond, List, [], ◌∷◌, length, nat_lt, Option, Some, None, Result, MatchResult}
 use Rattle.std.specs.Bool.{⊤}
 use Rattle.std.specs.List.{position_or_len}
@@ -11,17 +11,17 @@ use Rattle.finders.specs.Hits.{Hit, runs, hits, line_hits}
 use Rattle.finders.specs.Held.{Sighting, Held, held, over, merge_next}
 use Rattle.finders.specs.Search.{max_finders, seen}
 use Rattle.finders.specs.Rank.{insert, stays}
-use Rattle.finders.specs.Answer.{table_of, held_in}
-use Rattle.geometry.specs.declared.Finder.{Finder}
+use Rattle.finders.specs.Answer.{finders_table, held_in}
+use Rattle.lcr_core.specs.declared.finder.Finder.{Finder}
 use Rattle.finders.specs.declared.Finders.{Finders}
-use Rattle.finders.specs.declared.search.Window.{Window}
+use Rattle.finders.specs.declared.search.LastRuns.{LastRuns}
 use Rattle.finders.specs.declared.search.NextHit.{NextHit}
 use Rattle.finders.specs.declared.search.NextSighting.{NextSighting}
 
 -- ---- the table
 -- what a step of the search ends with: a table of the finders that are then held, or refusal 6 where there was one too many
 abbrev pub EndsWith : Held → Result ⊤ Refusal → Finders → Type 0
-EndsWith s r t = MatchResult r (λ _. (t ≡ table_of (held_in t)) × (s ≡ held (held_in t))) (λ e. (s ≡ over) × (e ≡ FullTable))
+EndsWith s r t = MatchResult r (λ _. (t ≡ finders_table (held_in t)) × (s ≡ held (held_in t))) (λ e. (s ≡ over) × (e ≡ FullTable))
 
 -- no finder has more than k confirmations
 abbrev pub Bounded : List Finder → ℕ → Type 0
@@ -30,7 +30,7 @@ Bounded fs k = Each (λ (f : Finder). f.confirmations ≤ k) fs
 -- a table that a hit can be merged into: zero beyond its count, no finder with more than k confirmations
 pub record Good (t : Finders) (k : ℕ) : Type 0 where
   pub few : t.count ≤ max_finders
-  pub rest : t ≡ table_of (held_in t)
+  pub rest : t ≡ finders_table (held_in t)
   pub counts : Bounded (held_in t) k
 
 -- no more finders than there are places, none with more than k confirmations
@@ -45,18 +45,18 @@ runs_from f colour i zero = []
 runs_from f colour i (suc n) = runs f colour 0 i (suc n)
 
 -- the hits that end after pixel `at`, before which the runs c, d and e end, e a dark one
-abbrev pub hits_after : (ℕ → Bool) → ℕ → Window → List Hit
+abbrev pub hits_after : (ℕ → Bool) → ℕ → LastRuns → List Hit
 hits_after f len w = hits (w.at - (w.c + w.d + w.e)) (w.c ∷ w.d ∷ w.e ∷ runs_from f false w.at (len - w.at))
 
 -- a window on a line of len pixels: it ends there, and its runs have room before its end
-abbrev pub FitsIn : ℕ → Window → Type 0
+abbrev pub FitsIn : ℕ → LastRuns → Type 0
 FitsIn len w = (w.at ≤ len) × (w.c + w.d + w.e ≤ w.at)
 
 -- the first of the hits after a window, with the window that it ends
-abbrev pub NextIs : (ℕ → Bool) → ℕ → Window → Option NextHit → Type 0
+abbrev pub NextIs : (ℕ → Bool) → ℕ → LastRuns → Option NextHit → Type 0
 NextIs f len w None = hits_after f len w ≡ []
 NextIs f len w (Some h) =
-    (hits_after f len w ≡ record { centre = h.centre; pitch = h.«module» } ∷ hits_after f len h.after) × (w.at < h.after.at) × FitsIn len h.after
+    (hits_after f len w ≡ record { centre = h.centre; «module» = h.«module» } ∷ hits_after f len h.after) × (w.at < h.after.at) × FitsIn len h.after
 
 -- ---- the lines of one axis
 -- how many confirmed hits a line, and an axis, has at most
@@ -87,14 +87,14 @@ module _ (bits : List ℕ) (width height : ℕ) where
   line_sightings columns n = flat_map (seen bits width height columns n) (line_hits (line_at bits width columns n) (line_len width height columns))
 
   -- those after a window
-  abbrev pub sightings_after : Bool → ℕ → Window → List Sighting
+  abbrev pub sightings_after : Bool → ℕ → LastRuns → List Sighting
   sightings_after columns n w = flat_map (seen bits width height columns n) (hits_after (line_at bits width columns n) (line_len width height columns) w)
 
   -- the first of them, with the window that it ends
-  abbrev pub SightedIs : Bool → ℕ → Window → Option NextSighting → Type 0
+  abbrev pub SightedIs : Bool → ℕ → LastRuns → Option NextSighting → Type 0
   SightedIs columns n w None = sightings_after columns n w ≡ []
   SightedIs columns n w (Some s) =
-      (sightings_after columns n w ≡ record { x = s.point.x; y = s.point.y; pitch = s.«module» } ∷ sightings_after columns n s.after) × (w.at < s.after.at)
+      (sightings_after columns n w ≡ record { x = s.point.x; y = s.point.y; «module» = s.«module» } ∷ sightings_after columns n s.after) × (w.at < s.after.at)
       × FitsIn (line_len width height columns) s.after
 
   -- after those of row or column n

@@ -1,5 +1,5 @@
--- The search with a table of any number of places (document 02, N9: "Raise its limit from 128 to 1,000"): what the theorems on the limit speak of, and no
--- contract does. Definitions only.
+-- To be believed. The search with a table of any number of places (document 02, N9: "Raise its limit from 128 to 1,000"): what the theorems on the limit
+-- speak of, and no contract does.
 use Rattle.std.specs.Prelude.{ℕ, List, [], length, Result}
 use Rattle.lcr_core.specs.declared.Refusal.{Refusal}
 use Rattle.lists.specs.Lists.{folded}

@@ -1,14 +1,14 @@
--- The search as document 000 has it, where the runs of a confirmation are taken as counted, however they ended (document 02, N7: "equality with the Rust is
--- then for pictures where no hit that it confirms has a run ended by the limit"): what the theorems on equality speak of, and no contract does.
--- Definitions only.
+-- To be believed. The search as document 000 has it, where the runs of a confirmation are taken as counted, however they ended (document 02, N7: "equality
+-- with the Rust is then for pictures where no hit that it confirms has a run ended by the limit"): what the theorems on equality speak of, and no contract
+-- does.
 use Rattle.std.specs.Prelude.{◌≡◌, ℕ, ◌*◌, ◌<◌, Bool, true, false, List, length, Some, Result}
 use Rattle.lcr_core.specs.declared.Refusal.{Refusal}
 use Rattle.lists.specs.Lists.{Each}
 use Rattle.binary.specs.Line.{row, column}
 use Rattle.confirm.specs.Confirm.{counted_of}
 use Rattle.confirm.specs.Published.{counted_on, cut_on}
-use Rattle.transform.specs.declared.Point.{Point}
-use Rattle.geometry.specs.declared.Finder.{Finder}
+use Rattle.lcr_core.specs.declared.point.Point.{Point}
+use Rattle.lcr_core.specs.declared.finder.Finder.{Finder}
 use Rattle.finders.specs.Hits.{Hit, line_hits}
 use Rattle.finders.specs.Held.{Sighting}
 use Rattle.finders.specs.Search.{sightings_by, found_by}
@@ -32,7 +32,7 @@ published_answer bits width height = answer_after (length bits) width height (fo
 module _ (bits : List ℕ) (width height : ℕ) where
   -- a hit of row n, or of column n: where document 000 confirms it, the limit ended no run of either confirmation
   abbrev pub Uncut : Bool → ℕ → Hit → Type 0
-  Uncut columns n h = (p : Point) → counted_on bits width height columns n h.centre h.pitch ≡ Some p → cut_on bits width height columns n h.centre h.pitch ≡ false
+  Uncut columns n h = (p : Point) → counted_on bits width height columns n h.centre h.«module» ≡ Some p → cut_on bits width height columns n h.centre h.«module» ≡ false
 
   -- each hit of every second row, and of every second column
   pub record NoneCut : Type 0 where

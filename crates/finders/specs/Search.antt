@@ -1,9 +1,9 @@
--- The search (document 01, "Finding and ranking": "Every second row from 0, then every second column from 0, is scanned"). Definitions only.
+-- To be believed. The search (document 01, "Finding and ranking": "Every second row from 0, then every second column from 0, is scanned").
 use Rattle.std.specs.Prelude.{ℕ, ◌+◌, ◌*◌, ◌/◌, Bool, true, false, List, [], ◌∷◌, ◌++◌, Float, Option, Some, None}
 use Rattle.lists.specs.Lists.{range, folded, flat_map}
 use Rattle.binary.specs.Line.{row, column}
 use Rattle.confirm.specs.Confirm.{Rule, core_of, confirmed_by}
-use Rattle.transform.specs.declared.Point.{Point}
+use Rattle.lcr_core.specs.declared.point.Point.{Point}
 use Rattle.finders.specs.Hits.{Hit, line_hits}
 use Rattle.finders.specs.Held.{Sighting, Held, held, merge_next}
 
@@ -13,7 +13,7 @@ max_finders = 1000
 
 -- a hit of module m, where it is confirmed
 abbrev pub sighting : Float → Option Point → List Sighting
-sighting m (Some p) = record { x = p.x; y = p.y; pitch = m } ∷ []
+sighting m (Some p) = record { x = p.x; y = p.y; «module» = m } ∷ []
 sighting m None = []
 
 -- f of every second number from 0 on below n
@@ -24,7 +24,7 @@ every_second f n = flat_map (λ k. f (2 * k)) (range 0 ((n + 1) / 2))
 module _ (rule : Rule) (bits : List ℕ) (width height : ℕ) where
   -- a hit on row n, or on column n
   abbrev pub seen_by : Bool → ℕ → Hit → List Sighting
-  seen_by columns n h = sighting h.pitch (confirmed_by rule bits width height columns n h.centre h.pitch)
+  seen_by columns n h = sighting h.«module» (confirmed_by rule bits width height columns n h.centre h.«module»)
 
   -- the confirmed hits of row y, and of column x
   abbrev pub row_sightings_by : ℕ → List Sighting

@@ -7,13 +7,13 @@ ghost use Rattle.finders.specs.Inner.{EndsWith, Good};
 
 use crate::{Finders, MAX_FINDERS};
 use float::Float;
-use geometry::Finder;
 use lcr_core::Refusal;
-use transform::Point;
+use lcr_core::finder::Finder;
+use lcr_core::point::Point;
 
 // Whether the finder's own module bounds both coordinate distances. A distance is bounded by m where it lies between -m and m; of many finders most are far away,
 // so that the second distance is seldom looked at.
-#[tactic(auto, using(crate::proofs::Within::within_both))]
+#[tactic(auto, using(float::proofs::Within::within_both))]
 fn is_within(f: Finder, p: Point) -> bool
     ensures { result ≡ within p.x p.y f }
 {
@@ -50,7 +50,7 @@ impl Finders {
     // One more confirmed hit, or refusal 6.
     pub fn merge(&mut self, p: Point, module: f32) -> Result<(), Refusal>
         requires { Good self.old (2 ^ 32 - 2) }
-        ensures { EndsWith (merge max_finders (held_in self.old) (record { x = p.x; y = p.y; pitch = «module» })) result self.new }
+        ensures { EndsWith (merge max_finders (held_in self.old) (record { x = p.x; y = p.y; «module» = «module» })) result self.new }
     {
         if let Some(i) = self.first_within(p) {
             self.table[i] = joined(self.table[i], p, module);

@@ -3,11 +3,11 @@
 
 ghost use Rattle.std.specs.Prelude.{◌≡◌, ◌≤◌, [], length};
 ghost use Rattle.finders.specs.Search.{max_finders};
-ghost use Rattle.finders.specs.Answer.{table_of, held_in, answer_of};
+ghost use Rattle.finders.specs.Answer.{finders_table, held_in, answer_of};
 
 use binary::picture::LentBits;
-use geometry::Finder;
 use lcr_core::Refusal;
+use lcr_core::finder::Finder;
 use search::scan_axis;
 
 mod held;
@@ -35,7 +35,7 @@ impl Finders {
 }
 
 pub fn no_finders() -> Finders
-    ensures { result ≡ table_of [] }
+    ensures { result ≡ finders_table [] }
 {
     let zero = Finder::zero();
     Finders {

@@ -12,35 +12,35 @@ use binary::line::Line;
 use binary::picture::BitPicture;
 use confirm::confirm_hit;
 use lcr_core::Refusal;
-use transform::Point;
+use lcr_core::point::Point;
 
 // The last three runs of a line before pixel `at`, the last a dark one.
 #[derive(Clone, Copy)]
-pub struct Window {
+pub struct LastRuns {
     pub c: u16,
     pub d: u16,
     pub e: u16,
     pub at: u16,
 }
 
-// A hit's centre and module, and the window after it.
+// A hit's centre and module, and the last runs after it.
 #[derive(Clone, Copy)]
 pub struct NextHit {
     pub centre: f32,
     pub module: f32,
-    pub after: Window,
+    pub after: LastRuns,
 }
 
-// A confirmed hit's point and module, and the window after it.
+// A confirmed hit's point and module, and the last runs after it.
 #[derive(Clone, Copy)]
 pub struct NextSighting {
     pub point: Point,
     pub module: f32,
-    pub after: Window,
+    pub after: LastRuns,
 }
 
 // The first hit of the line after a window.
-fn next_hit(line: Line<'_>, window: Window) -> Option<NextHit>
+fn next_hit(line: Line<'_>, window: LastRuns) -> Option<NextHit>
     requires { FitsIn line.len window }
     ensures { let l = line.entry in NextIs (pixel l.bits.now l.start l.stride) l.len window result }
 {
@@ -51,7 +51,7 @@ fn next_hit(line: Line<'_>, window: Window) -> Option<NextHit>
         let next = w.at + light;
         let dark = line.run_on(next, line.len - next, true);
         let end = next + dark;
-        let after = Window {
+        let after = LastRuns {
             c: w.e,
             d: light,
             e: dark,
@@ -87,7 +87,7 @@ fn next_sighting(
     picture: BitPicture<'_>,
     columns: bool,
     number: u16,
-    window: Window,
+    window: LastRuns,
 ) -> Option<NextSighting>
     requires { FitsIn (line_len picture.width picture.height columns) window }
     ensures { let p = picture.entry in SightedIs p.bits.now p.width p.height columns number window result }
@@ -120,7 +120,7 @@ fn scan_line(
 {
     let line = line_at(picture, columns, number);
     let first = line.run_on(0, line.len, true);
-    let mut w = Window {
+    let mut w = LastRuns {
         c: 0,
         d: 0,
         e: first,

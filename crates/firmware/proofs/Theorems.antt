@@ -15,7 +15,7 @@ use Rattle.finders.specs.Answer.{find_checks, finders_of}
 use Rattle.candidates.specs.declared.Detection.{Detection}
 use Rattle.candidates.specs.declared.Detections.{Detections}
 use Rattle.candidates.specs.Detection.{zero_detection}
-use Rattle.candidates.specs.Candidates.{table_of, table_in, detections_of, detect_answer}
+use Rattle.candidates.specs.Candidates.{detections_table, table_in, detections_of, detect_answer}
 use Rattle.candidates.proofs.Answers.{in_checked}
 use Rattle.lcr_core.specs.Answer.{checked}
 use Rattle.lcr_core.specs.Outcome.{Check}
@@ -46,11 +46,11 @@ unfolding firmware_bytes bytes_le
 length_firmware t e = ap suc (length_flat detection_bytes detection_size length_detection t.at ∙ ap (λ z. detection_size * z) e)
 
 -- so has every answer, as that for a picture of bits
-answered_bytes : (cs : List Check) (ds : List Detection) → length ds ≤ 3 → length (firmware_bytes (table_in (checked cs (table_of ds)))) ≡ firmware_size
+answered_bytes : (cs : List Check) (ds : List Detection) → length ds ≤ 3 → length (firmware_bytes (table_in (checked cs (detections_table ds)))) ≡ firmware_size
 answered_bytes cs ds l =
-    in_checked (λ (t : Detections). length (firmware_bytes t) ≡ firmware_size) cs (table_of ds)
-    (length_firmware (table_of []) (length-padded 3 zero_detection [] (omega arith)))
-    (length_firmware (table_of ds) (length-padded 3 zero_detection ds l))
+    in_checked (λ (t : Detections). length (firmware_bytes t) ≡ firmware_size) cs (detections_table ds)
+    (length_firmware (detections_table []) (length-padded 3 zero_detection [] (omega arith)))
+    (length_firmware (detections_table ds) (length-padded 3 zero_detection ds l))
 
 pub answer_bytes : (bits : List ℕ) (w h : ℕ) → length (firmware_bytes (table_in (detect_answer bits w h))) ≡ firmware_size
 unfolding detect_answer
@@ -68,7 +68,7 @@ none-zero zero = refl
 none-zero (suc k) = rw (zero_bytes, none-zero k) (replicate_more 0 detection_size (detection_size * k) ∙ ap (λ n. replicate n 0) (let e : detection_size + detection_size * k ≡ detection_size * suc k = omega arith in e))
 
 -- the count, the bytes of each detection, and then zeros
-pub missing_zero : (ds : List Detection) → length ds ≤ 3 → firmware_bytes (table_of ds) ≡ padded firmware_size 0 (length ds ∷ flat_map detection_bytes ds)
+pub missing_zero : (ds : List Detection) → length ds ≤ 3 → firmware_bytes (detections_table ds) ≡ padded firmware_size 0 (length ds ∷ flat_map detection_bytes ds)
 unfolding firmware_bytes bytes_le
 missing_zero ds h =
     let n : length ds % 256 ≡ length ds = omega arith in

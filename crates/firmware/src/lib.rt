@@ -1,4 +1,4 @@
-// The detections as bytes for the unit's firmware. Slice and place go one by one, since the places are document 01's.
+// The detections as bytes for the unit's firmware. Each function takes the slice and the place in it at which it writes: the places are document 01's.
 #![tactic(auto)]
 
 ghost use Rattle.std.specs.Prelude.{◌≡◌, ◌^◌, ◌<◌};
@@ -7,14 +7,16 @@ ghost use Rattle.firmware.specs.Firmware.{finder_bytes, marker_bytes, transform_
 
 use candidates::{Detection, Detections};
 use float::Float;
-use geometry::Finder;
+use lcr_core::finder::Finder;
+use lcr_core::point::Point;
 use little_endian::put;
-use transform::{Point, Transform};
+use transform::Transform;
 
 // The bytes that the detections take.
 pub const SIZE: usize = 367;
 
-// x, y, module and confirmations.
+// A finder: x, y, module and confirmations.
+#[tactic(auto, using(crate::proofs::Bytes::finder_is))]
 pub fn put_finder(out: &mut [u8], at: u16, f: Finder)
     ensures { out.new ≡ put (finder_bytes f) at out.old }
 {
@@ -25,6 +27,8 @@ pub fn put_finder(out: &mut [u8], at: u16, f: Finder)
     put::<u32>(out, i + 12, f.confirmations);
 }
 
+// A marker flag, and the marker's x and y, 0 where there is none.
+#[tactic(auto, using(crate::proofs::Bytes::flagged_is))]
 fn put_marker(out: &mut [u8], at: u16, m: Option<Point>)
     ensures { out.new ≡ put (marker_bytes m) at out.old }
 {
@@ -43,7 +47,8 @@ fn put_marker(out: &mut [u8], at: u16, m: Option<Point>)
     }
 }
 
-// The eight numbers.
+// A transform: its eight numbers, and no lens terms.
+#[tactic(auto, using(crate::proofs::Bytes::double_more, crate::proofs::Bytes::all_numbers), unfolding(lists::specs::Lists::flat_map, little_endian::specs::Bytes::put))]
 pub fn put_transform(out: &mut [u8], at: u16, t: Transform)
     ensures { out.new ≡ put (transform_bytes t) at out.old }
 {
@@ -52,6 +57,8 @@ pub fn put_transform(out: &mut [u8], at: u16, t: Transform)
     }
 }
 
+// A detection: its three finders, its version, its marker and its transform.
+#[tactic(auto, using(crate::proofs::Bytes::detection_is))]
 fn put_detection(out: &mut [u8], at: u16, d: Detection)
     requires { at < 2 ^ 15 }
     ensures { out.new ≡ put (detection_bytes d) at out.old }
@@ -68,6 +75,7 @@ fn put_detection(out: &mut [u8], at: u16, d: Detection)
 }
 
 // Writes the count's lowest byte and the three places of the table; what the slice has no room for is left out.
+#[tactic(auto, using(crate::proofs::Bytes::detection_more, crate::proofs::Bytes::all_places), unfolding(lists::specs::Lists::flat_map, little_endian::specs::Bytes::put))]
 pub fn put_detections(out: &mut [u8], t: Detections)
     ensures { out.new ≡ put (firmware_bytes t) 0 out.old }
 {

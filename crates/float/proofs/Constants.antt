@@ -3,7 +3,7 @@ use mathlib.Core.Path.{◌≡◌, refl}
 use mathlib.Core.Bool.{false}
 use Prim.Native.Nat.{ℕ}
 use lib.Ieee.{Float, binary32, binary64, of_bits, round}
-use Rattle.float.specs.Constants.{f0, f1/32, f1/8, quarter, half, f0_55, f0_7, f1, f1_5, f1_6, f2, f3, f3_5, f4, f5, f6, f6_5, f7, f21, f0_0722, f0_2126, f0_7152, d0, d1, d1e_9, d1e_12}
+use Rattle.float.specs.Constants.{f0, f1/32, f1/8, f1/4, f1/2, f0_55, f0_7, f1, f1_5, f1_6, f2, f3, f3_5, f4, f5, f6, f6_5, f7, f21, f0_0722, f0_2126, f0_7152, d0, d1, d1e_9, d1e_12}
 
 abbrev single : ℕ → ℕ → Float
 single n d = round binary32 false n d
@@ -14,8 +14,8 @@ double n d = round binary64 false n d
 pub singles : (f0 ≡ single 0 1)
     × (f1/32 ≡ single 1 32)
     × (f1/8 ≡ single 1 8)
-    × (quarter ≡ single 1 4)
-    × (half ≡ single 1 2)
+    × (f1/4 ≡ single 1 4)
+    × (f1/2 ≡ single 1 2)
     × (f0_55 ≡ single 55 100)
     × (f0_7 ≡ single 7 10)
     × (f1 ≡ single 1 1)

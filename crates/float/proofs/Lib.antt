@@ -16,3 +16,4 @@ pub mod NearestRoot
 pub mod Roots
 pub mod Theorems
 pub mod Constants
+pub mod Within

@@ -1,6 +1,7 @@
 -- The order of floats, stated once: off NaN `lt` is a strict weak order, and `eq` says that neither of two numbers is below the other. Assumes nothing.
+use Rattle.std.proofs.lemmas.Bool.{and_parts}
 use mathlib.Core.Path.{◌≡◌, refl, sym, ap, ◌∙◌}
-use mathlib.Core.Bool.{Bool, true, false, ◌&&◌}
+use mathlib.Core.Bool.{Bool, true, false}
 use Prim.Native.Nat.{ℕ, ◌+◌, ◌*◌, ◌<◌}
 use native.Mathlib.Nat.{zero-mul, add-mul, mul_right_comm, mul-le-mul_right, mul-lt-mul_of_pos_right}
 use native.Mathlib.Omega.{arith}
@@ -12,11 +13,6 @@ use Rattle.float.specs.Floats.{is_number}
 
 no : {A : Type 0} → ◌≡◌ {A = Bool} true false → A
 no h = let z : ◌≡◌ {A = ℕ} 0 1 = cc in absurd (omega arith)
-
--- both tests pass
-pub and_both : (a b : Bool) → (a && b) ≡ true → (a ≡ true) × (b ≡ true)
-and_both true b h = (refl, h)
-and_both false b h = no (sym h)
 
 -- ---- sizes with a sign, ±a against ±b
 below_asym : (s : Bool) (a : ℕ) (t : Bool) (b : ℕ) → below s a t b ≡ true → below t b s a ≡ false
@@ -43,10 +39,10 @@ not_below_trans true a true b false c h g = le-ltb 0 (a + c) (omega (arith, ltb-
 not_below_trans true a true b true c h g = le-ltb c a (omega (arith, ltb-false b a h, ltb-false c b g))
 
 level_not_below : (s : Bool) (a : ℕ) (t : Bool) (b : ℕ) → level s a t b ≡ true → (below s a t b ≡ false) × (below t b s a ≡ false)
-level_not_below false a false b h = let e = eqb-true a b (and_both (eqb a b) true h).0 in (le-ltb a b (omega arith), le-ltb b a (omega arith))
-level_not_below false a true b h = let z = and_both (eqb a b) (eqb a 0) h in let e = eqb-true a b z.0 in let o = eqb-true a 0 z.1 in (refl, le-ltb 0 (b + a) (omega arith))
-level_not_below true a false b h = let z = and_both (eqb a b) (eqb a 0) h in let e = eqb-true a b z.0 in let o = eqb-true a 0 z.1 in (le-ltb 0 (a + b) (omega arith), refl)
-level_not_below true a true b h = let e = eqb-true a b (and_both (eqb a b) true h).0 in (le-ltb b a (omega arith), le-ltb a b (omega arith))
+level_not_below false a false b h = let e = eqb-true a b (and_parts (eqb a b) true h).0 in (le-ltb a b (omega arith), le-ltb b a (omega arith))
+level_not_below false a true b h = let z = and_parts (eqb a b) (eqb a 0) h in let e = eqb-true a b z.0 in let o = eqb-true a 0 z.1 in (refl, le-ltb 0 (b + a) (omega arith))
+level_not_below true a false b h = let z = and_parts (eqb a b) (eqb a 0) h in let e = eqb-true a b z.0 in let o = eqb-true a 0 z.1 in (le-ltb 0 (a + b) (omega arith), refl)
+level_not_below true a true b h = let e = eqb-true a b (and_parts (eqb a b) true h).0 in (le-ltb b a (omega arith), le-ltb a b (omega arith))
 
 not_below_level : (s : Bool) (a : ℕ) (t : Bool) (b : ℕ) → below s a t b ≡ false → below t b s a ≡ false → level s a t b ≡ true
 not_below_level false a false b h g = rw (eq-eqb a b (omega (arith, ltb-false a b h, ltb-false b a g)))

@@ -1,5 +1,5 @@
--- The numbers that the rules name, each the float nearest to it, by its bits, as a literal of the code has it. `f` begins an f32, `d` an f64.
--- That each is the number of its name is proved in proofs/Constants.antt. Definitions only.
+-- To be believed. The numbers that the rules name, each the float nearest to it, by its bits, as a literal of the code has it. `f` begins an f32, `d` an f64.
+-- That each is the number of its name is proved in proofs/Constants.antt.
 use Rattle.std.specs.Prelude.{Float}
 use Rattle.std.specs.Float.Ieee.{of_bits}
 use Rattle.std.specs.Float.{binary32, binary64}
@@ -13,11 +13,11 @@ f1/32 = of_bits binary32 0x3d00_0000
 abbrev pub f1/8 : Float
 f1/8 = of_bits binary32 0x3e00_0000
 
-abbrev pub quarter : Float
-quarter = of_bits binary32 0x3e80_0000
+abbrev pub f1/4 : Float
+f1/4 = of_bits binary32 0x3e80_0000
 
-abbrev pub half : Float
-half = of_bits binary32 0x3f00_0000
+abbrev pub f1/2 : Float
+f1/2 = of_bits binary32 0x3f00_0000
 
 abbrev pub f0_55 : Float
 f0_55 = of_bits binary32 0x3f0c_cccd

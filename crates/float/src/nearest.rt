@@ -19,7 +19,9 @@ fn nearest_shift(m: u64, d: u64) -> u64
     (m + (m >> d) % 2 + h - 1) >> d
 }
 
-// The magnitude of the f32 nearest to that of an f64.
+// The magnitude of the f32 nearest to that of an f64, which is m * 2 ^ e smallest values of f64. The smallest value of f32 is 2 ^ 925 of these, and an f32 keeps
+// 24 of the 53 digits of m: from e = 925 - 29 = 896 on 29 digits are dropped; below it m / 2 ^ (925 - e) smallest values of f32 are nearest, which is nothing
+// below e = 862, where 64 or more would be dropped.
 fn narrow_mag(a: u64) -> u32
     requires { a < 2 ^ 63 }
     ensures { result ≡ round_mag binary32 (val binary64 a) (2 ^ 1074) }

@@ -1,4 +1,6 @@
 -- The answers put together, from the values that the calls gave. Assumes nothing.
+use Rattle.std.proofs.lemmas.Bool.{or_right}
+use Rattle.std.specs.Option.{option_or}
 use Rattle.std.specs.Prelude.{Some, None, Option, MatchOption, Ok, Err}
 use mathlib.Core.Path.{◌≡◌, refl}
 use mathlib.Core.Bool.{Bool, true, false, cond, ◌||◌}
@@ -7,22 +9,22 @@ use native.Mathlib.Omega.{arith}
 use lib.Ieee.{Float, le, to_unsigned, binary32}
 use borrow.Author.Tests.{lt-ltb, le-ltb}
 use Rattle.float.specs.Floats.{round_of}
-use Rattle.float.specs.Steps.{minus32, over32, whole32}
+use Rattle.float.specs.Steps.{◌⊖◌, ◌⊘◌, whole32}
 use Rattle.float.specs.Constants.{f0, f4, f6_5, f21}
-use Rattle.transform.specs.declared.Point.{Point}
+use Rattle.lcr_core.specs.declared.point.Point.{Point}
 use Rattle.transform.specs.declared.Triangle.{Triangle}
 use Rattle.transform.specs.declared.Transform.{Transform}
 use Rattle.transform.specs.Fit.{quad_fit}
 use Rattle.lcr_core.specs.declared.Refusal.TheVariants.{BadVersion}
 use Rattle.lcr_core.specs.Version.{valid, new_of, side_of}
 use Rattle.lcr_core.specs.declared.version.Version.{Version}
-use Rattle.geometry.specs.Order.{point}
+use Rattle.lcr_core.specs.Finder.{point}
 use Rattle.geometry.specs.Estimate.{side_in, nearest_version, estimate_of}
-use Rattle.geometry.specs.Build.{modules_of, pixels_of, affine_of, homography_of, or_else, symbol_fit}
+use Rattle.geometry.specs.Build.{modules_of, pixels_of, affine_of, homography_of, symbol_fit}
 use Rattle.geometry.specs.declared.Corners.{Corners}
 
 -- ---- the version
-module _ (side r : Float) (n : ℕ) (e : r ≡ round_of binary32 (over32 (minus32 side f21) f4)) (g : n ≡ to_unsigned 32 r) where
+module _ (side r : Float) (n : ℕ) (e : r ≡ round_of binary32 ((side ⊖ f21) ⊘ f4)) (g : n ≡ to_unsigned 32 r) where
   nearest-is : nearest_version side ≡ min (n + 1) 32
   unfolding nearest_version
   nearest-is = cc
@@ -32,10 +34,6 @@ module _ (side r : Float) (n : ℕ) (e : r ≡ round_of binary32 (over32 (minus3
 
   pub version-top : 32 ≤ n → 32 ≡ nearest_version side
   version-top h = omega (arith, nearest-is)
-
-pub or_right : (a b : Bool) → b ≡ true → (a || b) ≡ true
-or_right true b h = refl
-or_right false b h = h
 
 module _ (c : Corners) where
   pub small-tl : le c.tl.«module» f0 ≡ true → None ≡ estimate_of c
@@ -61,17 +59,17 @@ module _ (c : Corners) (m : Option Point) (a : Point) (v side : ℕ) (f h : Opti
   unfolding symbol_fit
   fit-first g = rw (e, lt-ltb v 2 g, k, s)
 
-  pub fit-second : 2 ≤ v → or_else h f ≡ symbol_fit c m v
+  pub fit-second : 2 ≤ v → option_or h f ≡ symbol_fit c m v
   unfolding symbol_fit
   fit-second g = rw (e, le-ltb v 2 g, k, l, s)
 
 -- what `Option::or_else` gives
-pub or_else-is : (h f r : Option Transform) → MatchOption h (r ≡ f) (λ t. r ≡ Some t) → r ≡ or_else h f
+pub or_else-is : (h f r : Option Transform) → MatchOption h (r ≡ f) (λ t. r ≡ Some t) → r ≡ option_or h f
 or_else-is None f r e = e
 or_else-is (Some t) f r e = e
 
 pub homography-is : (c : Corners) (m : Point) (side : Float) (s d : Triangle) (r : Option Transform) → s ≡ modules_of side → d ≡ pixels_of c
-    → r ≡ quad_fit (record { a = s.a; b = s.b; c = s.c; d = point (minus32 side f6_5) (minus32 side f6_5) }) (record { a = d.a; b = d.b; c = d.c; d = m }) → r ≡ homography_of c m side
+    → r ≡ quad_fit (record { a = s.a; b = s.b; c = s.c; d = point (side ⊖ f6_5) (side ⊖ f6_5) }) (record { a = d.a; b = d.b; c = d.c; d = m }) → r ≡ homography_of c m side
 unfolding homography_of
 homography-is c m side s d r e g h = cc
 

@@ -1,4 +1,5 @@
 -- What the definitions say of the order, the score, the version and the transform. Assumes nothing.
+use Rattle.std.specs.Option.{option_or}
 use mathlib.Core.Path.{◌≡◌, refl, sym}
 use mathlib.Core.Logic.{◌⊎◌, inl, inr}
 use mathlib.Core.Bool.{Bool, true, false, cond, not, ◌&&◌, true≢false}
@@ -10,7 +11,7 @@ use lib.Dec.{ltb}
 use lib.IntN.{ℤ, pos, negsuc, neg_ℤ}
 use lib.Ieee.{Float, nan, inf, fin, lt, up, down, to_unsigned, to_signed, of_int, of_bits, sub, div, round, binary32}
 use Rattle.float.specs.Floats.{is_number, round_of}
-use Rattle.float.specs.Steps.{minus32, times32, over32, whole32}
+use Rattle.float.specs.Steps.{◌⊖◌, ◌⊗◌, ◌⊘◌, whole32}
 use Rattle.float.specs.Constants.{f0, f4, f21}
 use Rattle.geometry.specs.Order.{span2_of, is_longest, turned_of, order_of}
 use Rattle.geometry.specs.Score.{out_by_pitch, out_by_edge, out_by_angle, out_by_ratio, admissible_corners, score_of, admissible}
@@ -21,10 +22,10 @@ use Rattle.transform.proofs.Theorems.{quad_plain, triangle_plain}
 use Rattle.lcr_core.specs.Version.{version_checks, side_of}
 use Rattle.lcr_core.proofs.Checks.{either}
 use Rattle.lcr_core.proofs.Answers.{checked_holds, either_or}
-use Rattle.geometry.specs.Build.{affine_of, homography_of, or_else, symbol_fit, built_of, built_fit}
-use Rattle.geometry.specs.declared.Finder.{Finder}
+use Rattle.geometry.specs.Build.{affine_of, homography_of, symbol_fit, built_of, built_fit}
+use Rattle.lcr_core.specs.declared.finder.Finder.{Finder}
 use Rattle.geometry.specs.declared.Corners.{Corners}
-use Rattle.transform.specs.declared.Point.{Point}
+use Rattle.lcr_core.specs.declared.point.Point.{Point}
 
 -- ---- the corners are the three finders, none lost and none twice
 
@@ -34,7 +35,7 @@ At c p q f = (f ≡ record { tl = c; tr = p; bl = q }) ⊎ (f ≡ record { tl = 
 
 turned_at : (c p q : Finder) → At c p q (turned_of c p q)
 unfolding turned_of
-turned_at c p q = go (lt f0 (minus32 (times32 (minus32 p.x c.x) (minus32 q.y c.y)) (times32 (minus32 p.y c.y) (minus32 q.x c.x))))
+turned_at c p q = go (lt f0 ((p.x ⊖ c.x) ⊗ (q.y ⊖ c.y) ⊖ (p.y ⊖ c.y) ⊗ (q.x ⊖ c.x)))
   where
     go : (b : Bool) → At c p q (cond b (record { tl = c; tr = p; bl = q }) (record { tl = c; tr = q; bl = p }))
     go true = inl refl
@@ -85,9 +86,9 @@ as_signed (fin false m e) = capped (m * up e / down e)
     capped : (n : ℕ) → min (min n (2 ^ 32 - 1) + 1) 32 ≡ min (min n (2 ^ 31 - 1) + 1) 32
     capped n = omega arith
 
-pub by_i32 : (side : Float) → nearest_version side ≡ clamped (to_signed 31 (round_of binary32 (over32 (minus32 side f21) f4)))
+pub by_i32 : (side : Float) → nearest_version side ≡ clamped (to_signed 31 (round_of binary32 ((side ⊖ f21) ⊘ f4)))
 unfolding nearest_version
-by_i32 side = as_signed (round_of binary32 (over32 (minus32 side f21) f4))
+by_i32 side = as_signed (round_of binary32 ((side ⊖ f21) ⊘ f4))
 
 pub from_1_to_32 : (side : Float) → (1 ≤ nearest_version side) × (nearest_version side ≤ 32)
 unfolding nearest_version
@@ -102,7 +103,7 @@ sides = refl
 abbrev PlainFit : Option Transform → Type 0
 PlainFit f = IfSome f Plain
 
-else-plain : (h g : Option Transform) → PlainFit h → PlainFit g → PlainFit (or_else h g)
+else-plain : (h g : Option Transform) → PlainFit h → PlainFit g → PlainFit (option_or h g)
 else-plain None g p q = q
 else-plain (Some t) g p q = p
 
@@ -118,7 +119,7 @@ module _ (c : Corners) where
       let side = whole32 (side_of v) in
       let h = homography_of c p side in
       let g = affine_of c side in
-      either PlainFit (ltb v 2) g (or_else h g) (affine_plain side) (else-plain h g (quad_plain _ _) (affine_plain side))
+      either PlainFit (ltb v 2) g (option_or h g) (affine_plain side) (else-plain h g (quad_plain _ _) (affine_plain side))
 
   pub built_plain : (a : Option Point) (v : ℕ) → IfSome (built_fit c a v) Plain
   unfolding built_of

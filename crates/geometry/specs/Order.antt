@@ -1,25 +1,14 @@
--- What three finders say of the symbol (of document 000). Here: which is which (`order_finders`). Score.antt: what puts a triple out, and its score;
--- Estimate.antt: the version; Build.antt: the transform. Document 01: "`order_finders`, `estimate_version` .. refuse nothing; "none" is their answer where
--- the Rust gives `None`. Floats handed in may be any." All steps are f32, in the order written. Definitions only.
+-- To be believed. What three finders say of the symbol (of document 000). Here: which is which (`order_finders`). Score.antt: what puts a triple out, and its
+-- score; Estimate.antt: the version; Build.antt: the transform. Document 01: "`order_finders`, `estimate_version` .. refuse nothing; "none" is their answer
+-- where the Rust gives `None`. Floats handed in may be any." All steps are f32, in the order written.
 use Rattle.std.specs.Prelude.{Bool, cond, ◌&&◌, Float}
 use Rattle.std.specs.Float.Ieee.{lt, le}
-use Rattle.float.specs.Steps.{minus32, times32}
+use Rattle.float.specs.Steps.{◌⊖◌, ◌⊗◌}
 use Rattle.float.specs.Constants.{f0}
 use Rattle.transform.specs.Apply.{distance2_of, distance_of}
-use Rattle.transform.specs.declared.Point.{Point}
-use Rattle.geometry.specs.declared.Finder.{Finder}
+use Rattle.lcr_core.specs.Finder.{centre_of}
+use Rattle.lcr_core.specs.declared.finder.Finder.{Finder}
 use Rattle.geometry.specs.declared.Corners.{Corners}
-
--- the finder that fills places beyond a count
-abbrev pub zero_finder : Finder
-zero_finder = record { x = f0; y = f0; «module» = f0; confirmations = 0 }
-
--- a point by its coordinates, and a finder's
-abbrev pub point : Float → Float → Point
-point x y = record { x = x; y = y }
-
-abbrev pub centre_of : Finder → Point
-centre_of f = point f.x f.y
 
 -- from a finder's centre to another's, and the square of such a distance
 abbrev pub span_of : Finder → Finder → Float
@@ -31,7 +20,7 @@ span2_of a b = distance2_of (centre_of a) (centre_of b)
 -- which of p and q is top right, by the sign of the cross product at the corner c
 unfoldable pub turned_of : Finder → Finder → Finder → Corners
 turned_of c p q =
-    cond (lt f0 (minus32 (times32 (minus32 p.x c.x) (minus32 q.y c.y)) (times32 (minus32 p.y c.y) (minus32 q.x c.x))))
+    cond (lt f0 ((p.x ⊖ c.x) ⊗ (q.y ⊖ c.y) ⊖ (p.y ⊖ c.y) ⊗ (q.x ⊖ c.x)))
     (record { tl = c; tr = p; bl = q })
     (record { tl = c; tr = q; bl = p })
 

@@ -2,24 +2,17 @@
 #![tactic(auto)]
 
 ghost use Rattle.std.specs.Prelude.{◌≡◌};
-ghost use Rattle.geometry.specs.Order.{zero_finder, span_of, span2_of, is_longest, turned_of, order_of};
+ghost use Rattle.geometry.specs.Order.{span_of, span2_of, is_longest, turned_of, order_of};
 ghost use Rattle.geometry.specs.Estimate.{edge_of, side_in, nearest_version, estimate_of};
 ghost use Rattle.geometry.specs.Build.{modules_of, pixels_of, affine_of, homography_of, symbol_fit, built_of};
 
 use lcr_core::Refusal;
+use lcr_core::finder::Finder;
+use lcr_core::point::Point;
 use lcr_core::version::Version;
-use transform::{Point, Quad, Transform, Triangle};
+use transform::{Quad, Transform, Triangle};
 
 pub mod score;
-
-// A finder's centre in pixels, its module in pixels, and how many hits it is the mean of.
-#[derive(Clone, Copy)]
-pub struct Finder {
-    pub x: f32,
-    pub y: f32,
-    pub module: f32,
-    pub confirmations: u32,
-}
 
 // Three finders by what they are: top left, top right, bottom left.
 #[derive(Clone, Copy)]
@@ -29,31 +22,17 @@ pub struct Corners {
     pub bl: Finder,
 }
 
-impl Finder {
-    // What stands at places beyond a count.
-    pub fn zero() -> Finder
-        ensures { result ≡ zero_finder }
-    {
-        Finder {
-            x: 0.0,
-            y: 0.0,
-            module: 0.0,
-            confirmations: 0,
-        }
-    }
-}
-
 // From a finder's centre to another's.
 fn span(a: Finder, b: Finder) -> f32
     ensures { result ≡ span_of a b }
 {
-    transform::distance(Point { x: a.x, y: a.y }, Point { x: b.x, y: b.y })
+    transform::distance(a.centre(), b.centre())
 }
 
 fn span2(a: Finder, b: Finder) -> f32
     ensures { result ≡ span2_of a b }
 {
-    transform::distance2(Point { x: a.x, y: a.y }, Point { x: b.x, y: b.y })
+    transform::distance2(a.centre(), b.centre())
 }
 
 // ---- the order
@@ -156,18 +135,9 @@ fn pixels_of(c: Corners) -> Triangle
     ensures { result ≡ pixels_of c }
 {
     Triangle {
-        a: Point {
-            x: c.tl.x,
-            y: c.tl.y,
-        },
-        b: Point {
-            x: c.tr.x,
-            y: c.tr.y,
-        },
-        c: Point {
-            x: c.bl.x,
-            y: c.bl.y,
-        },
+        a: c.tl.centre(),
+        b: c.tr.centre(),
+        c: c.bl.centre(),
     }
 }
 

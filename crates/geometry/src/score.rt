@@ -1,6 +1,6 @@
 // How well three finders fit the corners of a symbol.
 ghost use Rattle.std.specs.Prelude.{◌≡◌};
-ghost use Rattle.geometry.specs.Score.{mean_of, out_by_pitch, dot_of, corner_score, admissible_corners, score_of, admissible, answer};
+ghost use Rattle.geometry.specs.Score.{mean_of, out_by_pitch, dot_of, corner_score, admissible_corners, score_of, admissible, score_if};
 
 use super::{Corners, Finder, order_finders, span};
 use float::Float;
@@ -30,7 +30,7 @@ fn dot(f: Corners) -> f32
 
 // How far the corner is from a right angle with equal legs.
 fn right_angle_score(f: Corners) -> Option<f32>
-    ensures { result ≡ answer (admissible_corners f) (corner_score f) }
+    ensures { result ≡ score_if (admissible_corners f) (corner_score f) }
 {
     let n1 = span(f.tl, f.tr);
     let n2 = span(f.tl, f.bl);
@@ -57,7 +57,7 @@ fn right_angle_score(f: Corners) -> Option<f32>
 
 // The score of an admissible triple; lower is better.
 pub fn triple_score(a: Finder, b: Finder, c: Finder) -> Option<f32>
-    ensures { result ≡ answer (admissible a b c) (score_of a b c) }
+    ensures { result ≡ score_if (admissible a b c) (score_of a b c) }
 {
     if out_by_pitch(a, b, c) {
         None

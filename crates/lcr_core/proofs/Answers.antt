@@ -5,11 +5,11 @@ use Prim.Native.Nat.{ℕ, zero, suc}
 use lib.Dec.{eqb}
 use Rattle.std.specs.Prelude.{List, [], ◌∷◌, Result, Ok, Err, IsErrAnd, IfOk}
 use Rattle.std.specs.Result.{result_unwrap_or}
-use Rattle.lcr_core.specs.Outcome.{Check, refusal_number, number_of, first_of, unless}
+use Rattle.lcr_core.specs.Outcome.{Check, refusal_number, number_of, first_of, if_refused}
 use Rattle.lcr_core.specs.Answer.{behind, checked}
 use Rattle.lcr_core.specs.declared.Refusal.{Refusal}
 use Rattle.lcr_core.specs.declared.Refusal.TheVariants.{ZeroSide, LargeSide, UnknownFormat, ShortPicture, ShortOutput, FullTable, BadVersion, BadList, LargeFrame}
-use Rattle.lcr_core.proofs.Checks.{some_number, unless-refused}
+use Rattle.lcr_core.proofs.Checks.{some_number, if_refused_kept}
 
 -- the refusal of a number
 abbrev numbered : ℕ → Refusal
@@ -35,19 +35,19 @@ pub refusal_same : (r s : Refusal) → refusal_number r ≡ refusal_number s →
 refusal_same r s e = sym (numbered_back r) ∙ ap numbered e ∙ numbered_back s
 
 -- no number behind a number
-unless_itself : (n : ℕ) → unless n n 0 ≡ n
-unless_itself zero = refl
-unless_itself (suc n) = refl
+if_refused_itself : (n : ℕ) → if_refused n n 0 ≡ n
+if_refused_itself zero = refl
+if_refused_itself (suc n) = refl
 
 module _ {A : Type 0} where
   -- ---- an answer behind checks: its number is theirs, or else its own
-  pub number_behind : (cs : List Check) (a : Result A Refusal) → number_of (behind cs a) ≡ unless (first_of cs) (first_of cs) (number_of a)
+  pub number_behind : (cs : List Check) (a : Result A Refusal) → number_of (behind cs a) ≡ if_refused (first_of cs) (first_of cs) (number_of a)
   number_behind [] a = refl
   number_behind (c ∷ cs) a = go c.refuses (number_behind cs a)
     where
-      go : (b : Bool) → number_of (behind cs a) ≡ unless (first_of cs) (first_of cs) (number_of a)
-          → let n : ℕ = cond b (refusal_number c.refusal) (first_of cs) in number_of (cond b (Err c.refusal) (behind cs a)) ≡ unless n n (number_of a)
-      go true h = unless-refused (refusal_number c.refusal) (refusal_number c.refusal) (number_of a) (some_number c.refusal)
+      go : (b : Bool) → number_of (behind cs a) ≡ if_refused (first_of cs) (first_of cs) (number_of a)
+          → let n : ℕ = cond b (refusal_number c.refusal) (first_of cs) in number_of (cond b (Err c.refusal) (behind cs a)) ≡ if_refused n n (number_of a)
+      go true h = if_refused_kept (refusal_number c.refusal) (refusal_number c.refusal) (number_of a) (some_number c.refusal)
       go false h = h
 
   -- where they pass, it
@@ -84,7 +84,7 @@ module _ {A : Type 0} where
 
   -- ---- a value behind checks: the answer's number is theirs
   pub number_checked : (cs : List Check) (x : A) → number_of (checked cs x) ≡ first_of cs
-  number_checked cs x = number_behind cs (Ok x) ∙ unless_itself (first_of cs)
+  number_checked cs x = number_behind cs (Ok x) ∙ if_refused_itself (first_of cs)
 
   -- where they pass, the value
   pub checked_passed : (cs : List Check) (x : A) → 0 ≡ first_of cs → Ok x ≡ checked cs x

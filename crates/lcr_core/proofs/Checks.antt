@@ -1,4 +1,5 @@
 -- What is known where checks pass. Assumes nothing.
+use Rattle.std.proofs.lemmas.Bool.{or_parts}
 use mathlib.Core.Path.{◌≡◌, refl, sym, ap, ◌∙◌}
 use mathlib.Core.Bool.{Bool, cond, true, false, ◌||◌}
 use Prim.Native.Nat.{ℕ, zero, suc}
@@ -6,23 +7,19 @@ use native.Mathlib.Omega.{arith}
 use borrow.Author.Tests.{eqb-false, ltb-false}
 use lib.Dec.{eqb, ltb}
 use Rattle.std.specs.Prelude.{List, [], ◌∷◌, ◌++◌, take, drop, Result, Ok, Err, IsErrAnd}
-use Rattle.lcr_core.specs.Outcome.{Check, refusal_number, number_of, first_of, unless, zero_side, large_side, sides_refusal}
+use Rattle.lcr_core.specs.Outcome.{Check, refusal_number, number_of, first_of, if_refused, zero_side, large_side, sides_refusal}
 use Rattle.lcr_core.specs.declared.Refusal.{Refusal}
 use Rattle.lcr_core.specs.declared.Refusal.TheVariants.{ZeroSide, LargeSide, UnknownFormat, ShortPicture, ShortOutput, FullTable, BadVersion, BadList, LargeFrame}
 use Rattle.lcr_core.specs.Passed.{Sides}
-
-pub or_false : (a b : Bool) → a || b ≡ false → (a ≡ false) × (b ≡ false)
-or_false true b e = let z : ◌≡◌ {A = Bool} true false = e in (z, cc)
-or_false false b e = (refl, e)
 
 -- what holds of both holds of the one that is taken
 pub either : {A : Type 0} (P : A → Type 0) (b : Bool) (x y : A) → P x → P y → P (cond b x y)
 either P true x y p q = p
 either P false x y p q = q
 
-pub unless_either : {A : Type 0} (P : A → Type 0) (n : ℕ) (x y : A) → P x → P y → P (unless n x y)
-unless_either P zero x y p q = q
-unless_either P (suc n) x y p q = p
+pub if_refused_either : {A : Type 0} (P : A → Type 0) (n : ℕ) (x y : A) → P x → P y → P (if_refused n x y)
+if_refused_either P zero x y p q = q
+if_refused_either P (suc n) x y p q = p
 
 -- no refusal has the number 0
 pub some_number : (r : Refusal) → refusal_number r ≡ 0 → ⊥
@@ -100,8 +97,8 @@ same_number (Err e) r i = ap refusal_number i
 pub sides_pass : (w h : ℕ) → zero_side w h ≡ false → large_side w h ≡ false → Sides w h
 unfolding zero_side large_side
 sides_pass w h z l =
-    let p = or_false (eqb w 0) (eqb h 0) z in
-    let q = or_false (ltb 4096 w) (ltb 4096 h) l in
+    let p = or_parts (eqb w 0) (eqb h 0) z in
+    let q = or_parts (ltb 4096 w) (ltb 4096 h) l in
     let wz = eqb-false w 0 p.0 in
     let hz = eqb-false h 0 p.1 in
     let wl = ltb-false 4096 w q.0 in
@@ -109,16 +106,16 @@ sides_pass w h z l =
     omega arith
 
 -- what a refusal leaves
-pub unless-refused : {A : Type 0} (n : ℕ) (old new : A) → (n ≡ 0 → ⊥) → old ≡ unless n old new
-unless-refused zero old new h = absurd (h refl)
-unless-refused (suc n) old new h = refl
+pub if_refused_kept : {A : Type 0} (n : ℕ) (old new : A) → (n ≡ 0 → ⊥) → old ≡ if_refused n old new
+if_refused_kept zero old new h = absurd (h refl)
+if_refused_kept (suc n) old new h = refl
 
-pub unless_done : {A : Type 0} (n : ℕ) (old new : A) → n ≡ 0 → new ≡ unless n old new
-unless_done n old new h = rw h
+pub if_refused_done : {A : Type 0} (n : ℕ) (old new : A) → n ≡ 0 → new ≡ if_refused n old new
+if_refused_done n old new h = rw h
 
 -- what an error that is handed on leaves
-pub unless_error : {A : Type 0} (r : Refusal) (n : ℕ) (old new : A) → refusal_number r ≡ n → old ≡ unless n old new
-unless_error r n old new h = unless-refused n old new (λ e. some_number r (h ∙ e))
+pub if_refused_error : {A : Type 0} (r : Refusal) (n : ℕ) (old new : A) → refusal_number r ≡ n → old ≡ if_refused n old new
+if_refused_error r n old new h = if_refused_kept n old new (λ e. some_number r (h ∙ e))
 
 -- what is known where the sides pass
 pub sides_allowed : (w h : ℕ) → 0 ≡ sides_refusal w h → (false ≡ zero_side w h) × (false ≡ large_side w h)
@@ -131,14 +128,28 @@ sides_allowed w h e =
 pub sides_known : (w h : ℕ) → 0 ≡ sides_refusal w h → Sides w h
 sides_known w h e = let p = sides_allowed w h e in sides_pass w h (sym p.0) (sym p.1)
 
+-- ---- checks of the sides, and others behind them: these decide where the sides pass
+pub sides_then : (w h rest : ℕ) → 0 ≡ sides_refusal w h → cond (zero_side w h) 1 (cond (large_side w h) 2 rest) ≡ rest
+sides_then w h rest e = let p = sides_allowed w h e in rw (← p.0, ← p.1)
+
+-- else the sides' refusal
+pub sides_refused : (r : Refusal) (w h rest : ℕ) → refusal_number r ≡ sides_refusal w h → cond (zero_side w h) 1 (cond (large_side w h) 2 rest) ≡ refusal_number r
+unfolding sides_refusal
+sides_refused r w h rest e = go (zero_side w h) (large_side w h) e
+  where
+    go : (z l : Bool) → refusal_number r ≡ cond z 1 (cond l 2 0) → cond z 1 (cond l 2 rest) ≡ refusal_number r
+    go true l q = sym q
+    go false true q = sym q
+    go false false q = absurd (some_number r q)
+
 -- ---- checks behind checks
-pub first_behind : (cs ds : List Check) → unless (first_of cs) (first_of cs) (first_of ds) ≡ first_of (cs ++ ds)
+pub first_behind : (cs ds : List Check) → if_refused (first_of cs) (first_of cs) (first_of ds) ≡ first_of (cs ++ ds)
 first_behind [] ds = refl
 first_behind (c ∷ cs) ds = go c.refuses (first_behind cs ds)
   where
-    go : (b : Bool) → unless (first_of cs) (first_of cs) (first_of ds) ≡ first_of (cs ++ ds)
-        → let n : ℕ = cond b (refusal_number c.refusal) (first_of cs) in unless n n (first_of ds) ≡ cond b (refusal_number c.refusal) (first_of (cs ++ ds))
-    go true e = sym (unless-refused (refusal_number c.refusal) (refusal_number c.refusal) (first_of ds) (some_number c.refusal))
+    go : (b : Bool) → if_refused (first_of cs) (first_of cs) (first_of ds) ≡ first_of (cs ++ ds)
+        → let n : ℕ = cond b (refusal_number c.refusal) (first_of cs) in if_refused n n (first_of ds) ≡ cond b (refusal_number c.refusal) (first_of (cs ++ ds))
+    go true e = sym (if_refused_kept (refusal_number c.refusal) (refusal_number c.refusal) (first_of ds) (some_number c.refusal))
     go false e = e
 
 -- where all pass, the first n pass

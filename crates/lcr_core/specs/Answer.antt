@@ -1,4 +1,4 @@
--- What a call answers whose checks come first: the refusal of the first that refuses, or else what stands behind them. Definitions only.
+-- To be believed. What a call answers whose checks come first: the refusal of the first that refuses, or else what stands behind them.
 use Rattle.std.specs.Prelude.{cond, List, [], ◌∷◌, Result, Ok, Err}
 use Rattle.lcr_core.specs.Outcome.{Check}
 use Rattle.lcr_core.specs.declared.Refusal.{Refusal}

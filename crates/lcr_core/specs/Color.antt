@@ -1,6 +1,6 @@
--- Colours of 8 bits a channel (`Srgb8` of document 006). Definitions only.
+-- To be believed. Colours of 8 bits a channel (`Srgb8` of document 006).
 use Rattle.std.specs.Prelude.{ℕ, ◌+◌, ◌*◌, ◌/◌, ◌%◌, Float}
-use Rattle.float.specs.Steps.{plus32, times32, whole32}
+use Rattle.float.specs.Steps.{◌⊕◌, ◌⊗◌, whole32}
 use Rattle.float.specs.Constants.{f0_2126, f0_7152, f0_0722}
 use Rattle.lcr_core.specs.declared.color.Srgb8.{Srgb8}
 
@@ -14,4 +14,4 @@ of_hex n = record { r = n / 65536 % 256; g = n / 256 % 256; b = n % 256 }
 
 -- Rec. 709 luma, in f32 steps
 abbrev pub luma_of : Srgb8 → Float
-luma_of c = plus32 (plus32 (times32 f0_2126 (whole32 c.r)) (times32 f0_7152 (whole32 c.g))) (times32 f0_0722 (whole32 c.b))
+luma_of c = f0_2126 ⊗ whole32 c.r ⊕ f0_7152 ⊗ whole32 c.g ⊕ f0_0722 ⊗ whole32 c.b

@@ -1,4 +1,4 @@
--- The refusal numbers (document 01, first section, and document 02), the checks that give them, and what a refusal leaves. Definitions only.
+-- To be believed. The refusal numbers (document 01, first section, and document 02), the checks that give them, and what a refusal leaves.
 use Rattle.std.specs.Prelude.{ℕ, suc, zero, Bool, cond, ◌||◌, eqb, ltb, List, [], ◌∷◌, Result, Ok, Err}
 use Rattle.lcr_core.specs.declared.Refusal.{Refusal}
 use Rattle.lcr_core.specs.declared.Refusal.TheVariants.{ZeroSide, LargeSide, UnknownFormat, ShortPicture, ShortOutput, FullTable, BadVersion, BadList, LargeFrame}
@@ -31,9 +31,9 @@ first_of [] = 0
 first_of (c ∷ cs) = cond c.refuses (refusal_number c.refusal) (first_of cs)
 
 -- what a call leaves of what was lent: after a refusal all as it was, else what the stage writes
-abbrev pub unless : {A : Type 0} → ℕ → A → A → A
-unless zero old new = new
-unless (suc n) old new = old
+abbrev pub if_refused : {A : Type 0} → ℕ → A → A → A
+if_refused zero old new = new
+if_refused (suc n) old new = old
 
 -- 1: a side is 0
 unfoldable pub zero_side : ℕ → ℕ → Bool

@@ -1,4 +1,4 @@
--- What is known where the checks of the sides pass. For proofs, and for contracts of inner functions.
+-- For inner contracts and proofs. What is known where the checks of the sides pass.
 use Rattle.std.specs.Prelude.{ℕ, ◌≤◌, ◌<◌}
 use Rattle.lcr_core.specs.Outcome.{max_side}
 

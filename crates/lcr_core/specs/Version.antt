@@ -1,4 +1,4 @@
--- Versions and their sides (document 004). Definitions only.
+-- To be believed. Versions and their sides (document 004).
 use Rattle.std.specs.Prelude.{Bool, cond, not, ◌&&◌, List, [], ◌∷◌, Option, Some, None, Result, Ok, Err, ℕ, ◌+◌, ◌-◌, ◌*◌, ◌/◌, ◌%◌, leb, eqb}
 use Rattle.lcr_core.specs.Outcome.{Check, first_of}
 use Rattle.lcr_core.specs.declared.Refusal.{Refusal}

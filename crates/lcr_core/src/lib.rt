@@ -5,6 +5,8 @@ ghost use Rattle.std.specs.Prelude.{◌≡◌};
 ghost use Rattle.lcr_core.specs.Outcome.{refusal_number, number_of, zero_side, large_side, sides_refusal};
 
 pub mod color;
+pub mod finder;
+pub mod point;
 pub mod version;
 
 // Why an operation refuses.

@@ -9,8 +9,8 @@ use lib.ListN.{length, take, get_or, length-append}
 use lib.Seq.{append_snoc, take_all}
 use Rattle.lists.specs.Lists.{tabulate, flat_map}
 use Rattle.lists.proofs.Folds.{flat_map-append, flat_map-take}
-use Rattle.transform.specs.declared.Point.{Point}
-use Rattle.geometry.specs.declared.Finder.{Finder}
+use Rattle.lcr_core.specs.declared.point.Point.{Point}
+use Rattle.lcr_core.specs.declared.finder.Finder.{Finder}
 use Rattle.candidates.specs.declared.Detection.{Detection}
 use Rattle.listing_text.specs.declared.pieces.Text.{Text}
 use Rattle.listing_text.specs.Text.{space, line_feed, dash, decimal_text, single_text, line_text}

@@ -9,39 +9,39 @@ use borrow.Author.Tests.{lt-ltb, le-ltb}
 use Rattle.lists.specs.Lists.{flat_map}
 use Rattle.lists.proofs.Padded.{take-padded}
 use Rattle.binary.specs.Binary.{bytes_of}
-use Rattle.lcr_core.specs.Outcome.{refusal_number, number_of, unless}
+use Rattle.lcr_core.specs.Outcome.{refusal_number, number_of, if_refused}
 use Rattle.lcr_core.specs.declared.Refusal.{Refusal}
 use Rattle.std.specs.Prelude.{Result, Ok, Err}
 use Rattle.lcr_core.proofs.Answers.{checked_passed}
-use Rattle.lcr_core.proofs.Checks.{some_number, unless-refused, unless_done}
+use Rattle.lcr_core.proofs.Checks.{some_number, if_refused_kept, if_refused_done}
 use Rattle.little_endian.proofs.Round.{put_front}
-use Rattle.geometry.specs.declared.Finder.{Finder}
-use Rattle.geometry.specs.Order.{zero_finder}
+use Rattle.lcr_core.specs.declared.finder.Finder.{Finder}
+use Rattle.lcr_core.specs.Finder.{zero_finder}
 use Rattle.finders.specs.declared.Finders.{Finders}
 use Rattle.finders.proofs.Outcomes.{answer_table}
 use Rattle.finders.specs.Search.{max_finders, found}
-use Rattle.finders.specs.Answer.{held_in, find_checks, find_refusal, finders_of, answer_of, table_of as finders_table}
+use Rattle.finders.specs.Answer.{held_in, find_checks, find_refusal, finders_of, answer_of, finders_table}
 use Rattle.ranking.specs.declared.Eight.{Eight}
-use Rattle.ranking.specs.Ranking.{in_use, eight_of}
+use Rattle.ranking.specs.Tables.{in_use, eight_of}
 use Rattle.candidates.specs.declared.Detection.{Detection}
 use Rattle.candidates.specs.declared.Detections.{Detections}
 use Rattle.candidates.specs.Detection.{zero_detection}
-use Rattle.candidates.specs.Candidates.{detections_of, table_of, table_in, from_answer, detect_answer}
+use Rattle.candidates.specs.Candidates.{detections_of, detections_table, table_in, from_answer, detect_answer}
 use Rattle.candidates.proofs.Answers.{from-eight, detect_number}
 use Rattle.candidates.proofs.Theorems.{same_answer}
 use Rattle.candidates.proofs.Tails.{finders_tail, answer_tail}
-use Rattle.stages.specs.Pictures.{denoised_picture, left_after}
+use Rattle.stages.specs.Pictures.{as_picture, denoised_picture, left_after}
 use Rattle.stages.proofs.Theorems.{denoised_first}
 use Rattle.chain.specs.Chain.{chain_of}
 use Rattle.listing_text.specs.declared.pieces.Text.{Text}
 use Rattle.listing_text.specs.Inner.{Wrote, Adds, found_text}
-use Rattle.listing_text.specs.Listing.{refused_line, head_line, finder_line, detection_line, list_text, detections_in, answer_text, chain_text, width_of, height_of, picture_of, listing_refusal, listing_of, listing_room, written_in}
+use Rattle.listing_text.specs.Listing.{refused_line, head_line, finder_line, detection_line, list_text, detections_in, answer_text, chain_text, width_of, height_of, gray_bytes, listing_refusal, listing_of, listing_room, written_in}
 use Rattle.listing_text.proofs.Writing.{wrote_as, adds_then}
 
 -- ---- the list
 pub list_adds : (w h : ℕ) (t : Finders) (u : Detections) (xs : List Finder) (ys : List Detection) {i j k : ℕ} {a b c d : Text} → xs ≡ held_in t → ys ≡ detections_in u
     → Adds (head_line w h t.count u.count) i a b → Adds (flat_map finder_line xs) j b c → Adds (flat_map detection_line ys) k c d
-    → (fs : List Finder) (ds : List Detection) → t ≡ finders_table fs → u ≡ table_of ds → Adds (list_text w h fs ds) (i + (j + k)) a d
+    → (fs : List Finder) (ds : List Detection) → t ≡ finders_table fs → u ≡ detections_table ds → Adds (list_text w h fs ds) (i + (j + k)) a d
 unfolding list_text
 list_adds w h t u xs ys ex ey p q s fs ds e f =
     let c : t.count ≡ length fs = ap (λ (t : Finders). t.count) e in
@@ -56,9 +56,9 @@ module _ (bits : List ℕ) (w h : ℕ) where
   ds = detections_of bits w h (finders_of bits w h)
 
   -- the answer where nothing is refused, and its detections
-  pub answer_passed : find_refusal bits w h ≡ 0 → detect_answer bits w h ≡ Ok (table_of ds)
+  pub answer_passed : find_refusal bits w h ≡ 0 → detect_answer bits w h ≡ Ok (detections_table ds)
   unfolding detect_answer find_refusal
-  answer_passed z = sym (checked_passed (find_checks (length bits) w h (found bits w h)) (table_of ds) (sym z))
+  answer_passed z = sym (checked_passed (find_checks (length bits) w h (found bits w h)) (detections_table ds) (sym z))
 
   -- the text, by what is refused
   refused_text : (fs : List Finder) (a : Result Detections Refusal) → (number_of a ≡ 0 → ⊥) → answer_text w h fs a ≡ refused_line (number_of a)
@@ -92,14 +92,14 @@ module _ (bits : List ℕ) (w h : ℕ) where
 
     -- of its first eight finders the detections are not refused
     module _ (t : Eight) (k : (gs : List Finder) → f ≡ finders_table gs → t ≡ eight_of gs) where
-      detected : (x : Result Detections Refusal) → x ≡ from_answer bits w h (in_use t) → x ≡ Ok (table_of ds)
+      detected : (x : Result Detections Refusal) → x ≡ from_answer bits w h (in_use t) → x ≡ Ok (detections_table ds)
       detected x g = g ∙ from-eight bits w h (finders_of bits w h) t (k (finders_of bits w h) found_table) ∙ sym (same_answer bits w h none) ∙ answer_passed none
 
       pub detected-refused : (refusal : Refusal) → Err refusal ≡ from_answer bits w h (in_use t) → ⊥
       detected-refused refusal g = some_number refusal (ap number_of (detected (Err refusal) g))
 
       pub found_listed : (u : Detections) (r : ℕ) (a b : List ℕ) → Ok u ≡ from_answer bits w h (in_use t)
-          → ((fs : List Finder) (ds : List Detection) → f ≡ finders_table fs → u ≡ table_of ds → Wrote (list_text w h fs ds) 0 a r b) → Wrote (found_text bits w h) 0 a r b
+          → ((fs : List Finder) (ds : List Detection) → f ≡ finders_table fs → u ≡ detections_table ds → Wrote (list_text w h fs ds) 0 a r b) → Wrote (found_text bits w h) 0 a r b
       found_listed u r a b g p =
           let fs = finders_of bits w h in
           wrote_as (list_text w h fs ds) (found_text bits w h) 0 r a b (sym (text_listed none)) (p fs ds found_table (ap table_in (detected (Ok u) g)))
@@ -111,12 +111,13 @@ unfolding found_text
 found_text_tail bits w h = ap₂ (answer_text w h) (finders_tail bits w h) (answer_tail bits w h)
 
 -- the text of what the stages leave, where they answer n
-pub chain_wrote : (n : ℕ) (p : List ℕ) (w h : ℕ) (old done : List ℕ) (r : ℕ) (a b : List ℕ) → n ≡ 0 → done ≡ left_after n (denoised_picture p w h w 1) old
+pub chain_wrote : (n : ℕ) (p : List ℕ) (w h : ℕ) (old done : List ℕ) (r : ℕ) (a b : List ℕ) → n ≡ 0 → done ≡ left_after n (denoised_picture (as_picture p w h w 1)) old
     → Wrote (found_text done w h) 0 a r b → Wrote (chain_text p w h) 0 a r b
 unfolding chain_text chain_of found_text
 chain_wrote n p w h old done r a b z e q =
-    let d = denoised_picture p w h w 1 in
-    let t : found_text done w h ≡ found_text d w h = sym (found_text_tail done w h) ∙ ap (λ (d : List ℕ). found_text d w h) (denoised_first n p w h w 1 z old done e) in
+    let g = as_picture p w h w 1 in
+    let d = denoised_picture g in
+    let t : found_text done w h ≡ found_text d w h = sym (found_text_tail done w h) ∙ ap (λ (d : List ℕ). found_text d w h) (denoised_first n g z old done e) in
     wrote_as (found_text done w h) (found_text d w h) 0 r a b t q
 
 -- ---- the input
@@ -124,17 +125,17 @@ pub listing_refused : (l : List ℕ) (n r : ℕ) (a b : List ℕ) → n ≡ list
 unfolding listing_of
 listing_refused l n r a b e z p =
     let m = listing_refusal l in
-    let x = chain_text (picture_of l) (width_of l) (height_of l) in
-    wrote_as (refused_line n) (unless m (refused_line m) x) 0 r a b (ap refused_line e ∙ unless-refused m (refused_line m) x (λ i. z (e ∙ i))) p
+    let x = chain_text (gray_bytes l) (width_of l) (height_of l) in
+    wrote_as (refused_line n) (if_refused m (refused_line m) x) 0 r a b (ap refused_line e ∙ if_refused_kept m (refused_line m) x (λ i. z (e ∙ i))) p
 
-pub listing_done : (l p : List ℕ) (w h r : ℕ) (a b : List ℕ) → listing_refusal l ≡ 0 → w ≡ width_of l → h ≡ height_of l → p ≡ picture_of l
+pub listing_done : (l p : List ℕ) (w h r : ℕ) (a b : List ℕ) → listing_refusal l ≡ 0 → w ≡ width_of l → h ≡ height_of l → p ≡ gray_bytes l
     → Wrote (chain_text p w h) 0 a r b → Wrote (listing_of l) 0 a r b
 unfolding listing_of
 listing_done l p w h r a b z e f g q =
     let m = listing_refusal l in
-    let x = chain_text (picture_of l) (width_of l) (height_of l) in
-    let i : chain_text p w h ≡ x = ap (λ p. chain_text p w h) g ∙ ap (λ w. chain_text (picture_of l) w h) e ∙ ap (λ h. chain_text (picture_of l) (width_of l) h) f in
-    wrote_as (chain_text p w h) (unless m (refused_line m) x) 0 r a b (i ∙ unless_done m (refused_line m) x z) q
+    let x = chain_text (gray_bytes l) (width_of l) (height_of l) in
+    let i : chain_text p w h ≡ x = ap (λ p. chain_text p w h) g ∙ ap (λ w. chain_text (gray_bytes l) w h) e ∙ ap (λ h. chain_text (gray_bytes l) (width_of l) h) f in
+    wrote_as (chain_text p w h) (if_refused m (refused_line m) x) 0 r a b (i ∙ if_refused_done m (refused_line m) x z) q
 
 -- ---- the room
 pub too_short : (l a : List ℕ) → length a < listing_room → (0 ≡ written_in (length a) l) × (a ≡ take 0 l ++ drop 0 a) × (0 ≤ listing_room)

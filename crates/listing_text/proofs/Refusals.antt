@@ -14,10 +14,11 @@ use Rattle.lcr_core.specs.Passed.{Sides}
 use Rattle.lcr_core.proofs.Checks.{first_passes, refused_first, sides_pass, sides_allowed}
 use Rattle.binary.specs.Binary.{bytes_of}
 use Rattle.blocks.specs.Blocks.{blocks_on, blocks_in, under}
-use Rattle.image.specs.Gray.{unknown_format, short_picture}
-use Rattle.stages.specs.Stages.{short_room, stages_refusal}
-use Rattle.listing_text.specs.Inner.{Passed}
-use Rattle.listing_text.specs.Listing.{max_pixels, width_of, height_of, picture_of, listing_checks, listing_refusal}
+use Rattle.gray.specs.Gray.{unknown_format, short_picture}
+use Rattle.stages.specs.Pictures.{as_picture}
+use Rattle.stages.specs.Stages.{Room, short_room, stages_refusal}
+use Rattle.listing_text.specs.Inner.{ListingPassed}
+use Rattle.listing_text.specs.Listing.{max_pixels, width_of, height_of, gray_bytes, listing_checks, listing_refusal}
 
 -- ---- each refusal
 pub refuses_few : (l : List ℕ) → length l < 4 → 4 ≡ listing_refusal l
@@ -55,7 +56,7 @@ module _ (l : List ℕ) (w h : ℕ) (e : w ≡ width_of l) (f : h ≡ height_of 
         rw (le-ltb (length l) 4 long, ← e, ← f, zero, large, ← ns, le-ltb max_pixels n m, le-ltb (length (drop 4 l)) n u)
 
 -- ---- nothing is refused
-pub passed : (l : List ℕ) → listing_refusal l ≡ 0 → (4 ≤ length l) × Passed (width_of l) (height_of l) (picture_of l)
+pub passed : (l : List ℕ) → listing_refusal l ≡ 0 → (4 ≤ length l) × ListingPassed (width_of l) (height_of l) (gray_bytes l)
 unfolding listing_refusal
 passed l e =
     let w = width_of l in
@@ -64,11 +65,11 @@ passed l e =
     let p2 = first_passes (zero_side w h) 0 _ p1.1 in
     let p3 = first_passes (large_side w h) 1 _ p2.1 in
     let p4 = first_passes (ltb max_pixels (w * h)) 4 _ p3.1 in
-    let p5 = first_passes (ltb (length (picture_of l)) (w * h)) 3 _ p4.1 in
-    (ltb-false (length l) 4 p1.0, (p2.0, p3.0, ltb-false max_pixels (w * h) p4.0, ltb-false (length (picture_of l)) (w * h) p5.0))
+    let p5 = first_passes (ltb (length (gray_bytes l)) (w * h)) 3 _ p4.1 in
+    (ltb-false (length l) 4 p1.0, (p2.0, p3.0, ltb-false max_pixels (w * h) p4.0, ltb-false (length (gray_bytes l)) (w * h) p5.0))
 
 -- what the text of a picture asks for
-pub ready : (l p : List ℕ) (w h : ℕ) → listing_refusal l ≡ 0 → w ≡ width_of l → h ≡ height_of l → p ≡ picture_of l → Passed w h p
+pub ready : (l p : List ℕ) (w h : ℕ) → listing_refusal l ≡ 0 → w ≡ width_of l → h ≡ height_of l → p ≡ gray_bytes l → ListingPassed w h p
 ready l p w h z e f g = rw (e, f, g) (passed l z).1
 
 -- ---- the stages
@@ -84,7 +85,11 @@ blocks_few w h s m =
     let v = s.h_most in
     omega (arith, p, x, y, m, u, v)
 
-module _ (w h : ℕ) (p : List ℕ) (k : Passed w h p) where
+-- the room in the slices
+abbrev pub slices_room : Room
+slices_room = record { gray = max_pixels; bits = 5000; denoised = 5000; work = 1600 ∷ 1600 ∷ 1600 ∷ 1600 ∷ 1600 ∷ [] }
+
+module _ (w h : ℕ) (p : List ℕ) (k : ListingPassed w h p) where
   few : blocks_in w h ≤ 1600
   few = blocks_few w h (sides_pass w h k.0 k.1) k.2
 
@@ -97,13 +102,13 @@ module _ (w h : ℕ) (p : List ℕ) (k : Passed w h p) where
       let c : (h - 1) * w + w * 1 ≤ length p = omega (arith, b, k.3) in
       rw (le-ltb w (w * 1) a, le-ltb (length p) ((h - 1) * w + w * 1) c)
 
-  enough_room : short_room w h max_pixels 5000 5000 (1600 ∷ 1600 ∷ 1600 ∷ 1600 ∷ 1600 ∷ []) ≡ false
+  enough_room : short_room w h slices_room ≡ false
   unfolding short_room under
   enough_room =
       let b : bytes_of (w * h) ≤ 5000 = omega (arith, k.2) in
       rw (le-ltb max_pixels (w * h) k.2, le-ltb 5000 (bytes_of (w * h)) b, le-ltb 1600 (blocks_in w h) few)
 
   -- refuse nothing in slices that are enough for any such picture
-  pub stages_pass : stages_refusal (length p) w h w 1 max_pixels 5000 5000 (1600 ∷ 1600 ∷ 1600 ∷ 1600 ∷ 1600 ∷ []) ≡ 0
+  pub stages_pass : stages_refusal (as_picture p w h w 1) slices_room ≡ 0
   unfolding stages_refusal unknown_format
   stages_pass = rw (k.0, k.1, long_picture, enough_room)

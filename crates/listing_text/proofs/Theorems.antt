@@ -2,7 +2,7 @@
 -- and their detections, which are the chain's; and extra bytes are ignored. Assumes nothing.
 use mathlib.Core.Path.{◌≡◌, refl, sym, ap, ◌∙◌}
 use mathlib.Core.Bool.{Bool, true, false, cond}
-use mathlib.Core.List.{List, [], ◌∷◌}
+use mathlib.Core.List.{List}
 use Prim.Native.Nat.{ℕ, zero, suc, ◌+◌, ◌*◌, ◌/◌, ◌%◌, ◌≤◌, ◌<◌}
 use native.Mathlib.Nat.{div-add-mod'}
 use native.Mathlib.Omega.{arith}
@@ -13,37 +13,37 @@ use borrow.Author.Tests.{lt-ltb, le-ltb, ltb-true, ltb-false}
 use Rattle.lists.specs.Lists.{tabulate}
 use Rattle.lists.proofs.Tabulate.{tabulate_ext}
 use Rattle.std.specs.Prelude.{Result, Ok}
-use Rattle.lcr_core.specs.Outcome.{number_of, unless}
+use Rattle.lcr_core.specs.Outcome.{number_of, if_refused}
 use Rattle.lcr_core.specs.declared.Refusal.{Refusal}
-use Rattle.lcr_core.proofs.Checks.{unless_done}
+use Rattle.lcr_core.proofs.Checks.{if_refused_done}
 use Rattle.little_endian.specs.Bytes.{read_le}
 use Rattle.binary.specs.Binary.{byte_of, bytes_of}
-use Rattle.image.specs.Gray.{gray_of, gray_at}
-use Rattle.image.specs.Denoise.{denoised_at}
+use Rattle.gray.specs.Gray.{gray_of, gray_at}
+use Rattle.denoise.specs.Denoise.{denoised_at}
 use Rattle.binarize.specs.Binarize.{is_dark}
 use Rattle.finders.specs.Search.{found}
 use Rattle.finders.specs.Answer.{is_over, find_refusal, finders_of}
-use Rattle.geometry.specs.declared.Finder.{Finder}
+use Rattle.lcr_core.specs.declared.finder.Finder.{Finder}
 use Rattle.candidates.specs.declared.Detection.{Detection}
 use Rattle.candidates.specs.declared.Detections.{Detections}
-use Rattle.candidates.specs.Candidates.{detections_of, table_of, detect_answer}
+use Rattle.candidates.specs.Candidates.{detections_of, detections_table, detect_answer}
 use Rattle.candidates.proofs.Answers.{detect_number}
-use Rattle.stages.specs.Pictures.{gray_picture, bit_picture, denoised_picture}
+use Rattle.stages.specs.Pictures.{as_picture, gray_picture, bit_picture, denoised_picture}
 use Rattle.chain.specs.Chain.{chain_of}
 use Rattle.chain.proofs.Theorems.{six_is_left}
 use Rattle.listing_text.specs.Inner.{found_text}
-use Rattle.listing_text.specs.Listing.{width_of, height_of, picture_of, max_pixels, listing_refusal, refused_line, list_text, answer_text, chain_text, listing_of}
-use Rattle.listing_text.proofs.Refusals.{passed, stages_pass}
+use Rattle.listing_text.specs.Listing.{width_of, height_of, gray_bytes, max_pixels, listing_refusal, refused_line, list_text, answer_text, chain_text, listing_of}
+use Rattle.listing_text.proofs.Refusals.{passed, slices_room, stages_pass}
 use Rattle.listing_text.proofs.Listed.{answer_passed, text_refused, text_listed}
 
 -- ---- an input that isn't refused
 -- its denoised bits
 abbrev pub bits_of : List ℕ → List ℕ
-bits_of l = denoised_picture (picture_of l) (width_of l) (height_of l) (width_of l) 1
+bits_of l = denoised_picture (as_picture (gray_bytes l) (width_of l) (height_of l) (width_of l) 1)
 
 -- what the chain answers for it
 abbrev pub answer_for : List ℕ → Result Detections Refusal
-answer_for l = chain_of (picture_of l) (width_of l) (height_of l) (width_of l) 1
+answer_for l = chain_of (as_picture (gray_bytes l) (width_of l) (height_of l) (width_of l) 1)
 
 -- whether there is a 1,001st finder
 abbrev pub full_table : List ℕ → Bool
@@ -63,15 +63,15 @@ module _ (l : List ℕ) (z : listing_refusal l ≡ 0) where
   six_or-none =
       let w = width_of l in
       let h = height_of l in
-      let p = picture_of l in
-      six_is_left p w h w 1 (length p) max_pixels 5000 5000 (1600 ∷ 1600 ∷ 1600 ∷ 1600 ∷ 1600 ∷ []) (stages_pass w h p (passed l z).1)
+      let p = gray_bytes l in
+      six_is_left (as_picture p w h w 1) slices_room (stages_pass w h p (passed l z).1)
 
   search_refuses : find_refusal (bits_of l) (width_of l) (height_of l) ≡ cond (full_table l) 6 0
   unfolding chain_of
   search_refuses = sym (detect_number (bits_of l) (width_of l) (height_of l)) ∙ six_or-none
 
   -- the detections that are printed are those that the chain answers
-  pub of_the_chain : full_table l ≡ false → answer_for l ≡ Ok (table_of (listed_detections l))
+  pub of_the_chain : full_table l ≡ false → answer_for l ≡ Ok (detections_table (listed_detections l))
   unfolding chain_of
   of_the_chain e = answer_passed (bits_of l) (width_of l) (height_of l) (search_refuses ∙ ap (λ (b : Bool). cond b 6 0) e)
 
@@ -85,20 +85,20 @@ module _ (l : List ℕ) (z : listing_refusal l ≡ 0) where
   unfolding listing_of chain_text chain_of found_text
   listed =
       let n = listing_refusal l in
-      let x = chain_text (picture_of l) (width_of l) (height_of l) in
-      sym (unless_done n (refused_line n) x z) ∙ text (full_table l) search_refuses
+      let x = chain_text (gray_bytes l) (width_of l) (height_of l) in
+      sym (if_refused_done n (refused_line n) x z) ∙ text (full_table l) search_refuses
 
 -- ---- extra bytes
 -- gray bytes that agree on the picture's pixels have the same denoised bits
 module _ (p q : List ℕ) (w h : ℕ) (e : (i : ℕ) → i < w * h → get_or p i 0 ≡ get_or q i 0) where
-  same_gray : gray_picture p w h w 1 ≡ gray_picture q w h w 1
+  same_gray : gray_picture (as_picture p w h w 1) ≡ gray_picture (as_picture q w h w 1)
   unfolding gray_picture gray_at gray_of
   same_gray =
       tabulate_ext (w * h) (gray_at p w w 1) (gray_at q w w 1) (λ n l.
       let i : n / w * w + n % w * 1 ≡ n = omega (arith, div-add-mod' n w) in
       e (n / w * w + n % w * 1) (omega (arith, i, l)))
 
-  same_denoised : denoised_picture p w h w 1 ≡ denoised_picture q w h w 1
+  same_denoised : denoised_picture (as_picture p w h w 1) ≡ denoised_picture (as_picture q w h w 1)
   unfolding denoised_picture bit_picture
   same_denoised = ap (λ (g : List ℕ). tabulate (bytes_of (w * h)) (byte_of (denoised_at (tabulate (bytes_of (w * h)) (byte_of (is_dark g w h))) w h))) same_gray
 
@@ -143,7 +143,7 @@ module _ (l : List ℕ) (n : ℕ) (a : 4 ≤ n) (b : width_of l * height_of l �
       let v : ltb (length l) 4 ≡ false = le-ltb (length l) 4 c in
       rw (u, v, x, y, same_last (width_of l * height_of l) b)
 
-  same_text : (r : ℕ) → r ≡ listing_refusal l → unless r (refused_line r) (chain_text (picture_of (take n l)) (width_of (take n l)) (height_of (take n l))) ≡ unless r (refused_line r) (chain_text (picture_of l) (width_of l) (height_of l))
+  same_text : (r : ℕ) → r ≡ listing_refusal l → if_refused r (refused_line r) (chain_text (gray_bytes (take n l)) (width_of (take n l)) (height_of (take n l))) ≡ if_refused r (refused_line r) (chain_text (gray_bytes l) (width_of l) (height_of l))
   same_text (suc r) e = refl
   same_text zero e =
       let k = (passed l (sym e)).1.2 in
@@ -156,8 +156,8 @@ module _ (l : List ℕ) (n : ℕ) (a : 4 ≤ n) (b : width_of l * height_of l �
   same_listing : listing_of (take n l) ≡ listing_of l
   unfolding listing_of
   same_listing =
-      let m = chain_text (picture_of (take n l)) (width_of (take n l)) (height_of (take n l)) in
-      ap (λ (r : ℕ). unless r (refused_line r) m) same_refusal ∙ same_text (listing_refusal l) refl
+      let m = chain_text (gray_bytes (take n l)) (width_of (take n l)) (height_of (take n l)) in
+      ap (λ (r : ℕ). if_refused r (refused_line r) m) same_refusal ∙ same_text (listing_refusal l) refl
 
 -- bytes behind the first n are ignored
 ignored : (l : List ℕ) (n : ℕ) → 4 ≤ n → (width_of l * height_of l ≤ max_pixels → 4 + width_of l * height_of l ≤ n) → listing_of (take n l) ≡ listing_of l

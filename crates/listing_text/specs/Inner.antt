@@ -1,5 +1,4 @@
--- For contracts of inner functions, and for proofs: what holds of a picture that passed the checks, pieces of text written one after the other,
--- and the text of denoised bits.
+-- For inner contracts and proofs. What holds of a picture that passed the checks, pieces of text written one after the other, and the text of denoised bits.
 use Rattle.std.specs.Prelude.{ℕ, ◌+◌, ◌*◌, ◌≤◌, ◌≡◌, false, List, [], ◌∷◌, ◌++◌, length}
 use Rattle.lists.specs.Lists.{flat_map}
 use Rattle.lcr_core.specs.Outcome.{zero_side, large_side}
@@ -11,8 +10,8 @@ use Rattle.listing_text.specs.Text.{space}
 use Rattle.listing_text.specs.Listing.{max_pixels, answer_text}
 
 -- what holds of the sides and of the picture bytes of an input that is not refused
-abbrev pub Passed : ℕ → ℕ → List ℕ → Type 0
-Passed w h p = (zero_side w h ≡ false) × (large_side w h ≡ false) × (w * h ≤ max_pixels) × (w * h ≤ length p)
+abbrev pub ListingPassed : ℕ → ℕ → List ℕ → Type 0
+ListingPassed w h p = (zero_side w h ≡ false) × (large_side w h ≡ false) × (w * h ≤ max_pixels) × (w * h ≤ length p)
 
 -- a piece was put at place i of a slice, and r is the place after it
 abbrev pub Wrote : List ℕ → ℕ → List ℕ → ℕ → List ℕ → Type 0

@@ -1,55 +1,54 @@
--- What the listing program prints for an input. Document 01: "The listing program reads width and height (two bytes each, little-endian) and gray bytes
--- from standard input; under 4 bytes is 4, then come 1, 2, 5 for over 40,000 pixels, and 4 for too few gray bytes; extra bytes are ignored. It runs the
--- chain on `Gray8` and prints `refused N`, or width, height, finder count, detection count; a line per finder (x, y, module as eight hexadecimal digits,
--- confirmations in decimal); a line per detection (version, alignment x and y or `-`, eight transform numbers of sixteen hexadecimal digits)." Document 02,
--- N8: "The listing's detection line ends with both", score and mean module, "eight hexadecimal digits each". Definitions only.
+-- To be believed. What the listing program prints for an input. Document 01: "The listing program reads width and height (two bytes each, little-endian) and
+-- gray bytes from standard input; under 4 bytes is 4, then come 1, 2, 5 for over 40,000 pixels, and 4 for too few gray bytes; extra bytes are ignored. It
+-- runs the chain on `Gray8` and prints `refused N`, or width, height, finder count, detection count; a line per finder (x, y, module as eight hexadecimal
+-- digits, confirmations in decimal); a line per detection (version, alignment x and y or `-`, eight transform numbers of sixteen hexadecimal digits)."
+-- Document 02, N8: "The listing's detection line ends with both", score and mean module, "eight hexadecimal digits each".
 use Rattle.std.specs.Prelude.{ℕ, ◌+◌, ◌*◌, cond, List, [], ◌∷◌, ◌++◌, ltb, length, take, drop, get_or, Float, Option, Some, None, Result, Ok, Err}
 use Rattle.std.specs.Float.{nan}
 use Rattle.lists.specs.Lists.{tabulate, flat_map}
 use Rattle.little_endian.specs.Bytes.{read_le}
-use Rattle.lcr_core.specs.Outcome.{Check, refusal_number, first_of, unless, zero_side, large_side}
+use Rattle.lcr_core.specs.Outcome.{Check, refusal_number, first_of, if_refused, side_checks}
 use Rattle.lcr_core.specs.declared.Refusal.{Refusal}
-use Rattle.lcr_core.specs.declared.Refusal.TheVariants.{ZeroSide, LargeSide, ShortPicture, ShortOutput}
-use Rattle.image.specs.declared.PixelFormat.TheVariants.{Gray8}
-use Rattle.image.specs.Gray.{channels_of}
-use Rattle.geometry.specs.declared.Finder.{Finder}
+use Rattle.lcr_core.specs.declared.Refusal.TheVariants.{ShortPicture, ShortOutput}
+use Rattle.gray.specs.declared.format.PixelFormat.TheVariants.{Gray8}
+use Rattle.gray.specs.Gray.{channels_of}
+use Rattle.lcr_core.specs.declared.finder.Finder.{Finder}
 use Rattle.finders.specs.Search.{max_finders}
 use Rattle.finders.specs.Answer.{finders_of}
 use Rattle.candidates.specs.declared.Detection.{Detection}
 use Rattle.candidates.specs.declared.Detections.{Detections}
-use Rattle.stages.specs.Pictures.{denoised_picture}
+use Rattle.stages.specs.Pictures.{as_picture, denoised_picture}
 use Rattle.chain.specs.Chain.{chain_of}
 use Rattle.listing_text.specs.Text.{decimal_text, single_text, double_text, dash, line_text}
-use Rattle.transform.specs.declared.Point.{Point}
+use Rattle.lcr_core.specs.declared.point.Point.{Point}
 
 -- ---- the input
--- its first two bytes
+-- the width: its first two bytes
 abbrev pub width_of : List ℕ → ℕ
 width_of input = read_le 2 input 0
 
--- the next two
+-- the height: the next two
 abbrev pub height_of : List ℕ → ℕ
 height_of input = read_le 2 input 2
 
--- the gray bytes, and the extra bytes behind them
-abbrev pub picture_of : List ℕ → List ℕ
-picture_of input = drop 4 input
+-- the gray bytes, with the extra bytes behind them
+abbrev pub gray_bytes : List ℕ → List ℕ
+gray_bytes input = drop 4 input
 
 -- the most pixels
 abbrev pub max_pixels : ℕ
 max_pixels = 40000
 
--- 4, 1, 2, 5 and 4, in this order
+-- what is refused of an input: 4, 1, 2, 5 and 4, in this order
 abbrev pub listing_checks : List ℕ → List Check
 listing_checks input =
     let w = width_of input in
     let h = height_of input in
     record { refuses = ltb (length input) 4; refusal = ShortPicture }
-    ∷ record { refuses = zero_side w h; refusal = ZeroSide }
-    ∷ record { refuses = large_side w h; refusal = LargeSide }
-    ∷ record { refuses = ltb max_pixels (w * h); refusal = ShortOutput }
-    ∷ record { refuses = ltb (length (picture_of input)) (w * h); refusal = ShortPicture }
-    ∷ []
+    ∷ (side_checks w h
+    ++ (record { refuses = ltb max_pixels (w * h); refusal = ShortOutput }
+    ∷ record { refuses = ltb (length (gray_bytes input)) (w * h); refusal = ShortPicture }
+    ∷ []))
 
 -- the number of the first that refuses
 unfoldable pub listing_refusal : List ℕ → ℕ
@@ -103,14 +102,14 @@ answer_text w h fs (Err refusal) = refused_line (refusal_number refusal)
 -- the chain on `Gray8`, p the picture in rows of w bytes: the finders are those of the denoised bits, in which the chain looks for its detections
 unfoldable pub chain_text : List ℕ → ℕ → ℕ → List ℕ
 chain_text p w h =
-    let f = channels_of Gray8 in
-    answer_text w h (finders_of (denoised_picture p w h w f) w h) (chain_of p w h w f)
+    let g = as_picture p w h w (channels_of Gray8) in
+    answer_text w h (finders_of (denoised_picture g) w h) (chain_of g)
 
 -- every character that is printed for an input
 unfoldable pub listing_of : List ℕ → List ℕ
 listing_of input =
     let n = listing_refusal input in
-    unless n (refused_line n) (chain_text (picture_of input) (width_of input) (height_of input))
+    if_refused n (refused_line n) (chain_text (gray_bytes input) (width_of input) (height_of input))
 
 -- ---- the room
 -- for a number and the character after it: a decimal of twenty digits, an f32, an f64

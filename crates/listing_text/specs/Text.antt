@@ -1,6 +1,6 @@
--- Numbers and lines as text, each character by its ASCII code. Document 01, the listing program: module "as eight hexadecimal digits, confirmations in
--- decimal"; "transform numbers of sixteen hexadecimal digits"; "Fields are parted by one space; hexadecimal digits are lower case; alignment x and y have
--- eight of them, a missing alignment is one `-`, and version, sides and counts are decimal". Definitions only.
+-- To be believed. Numbers and lines as text, each character by its ASCII code. Document 01, the listing program: module "as eight hexadecimal digits,
+-- confirmations in decimal"; "transform numbers of sixteen hexadecimal digits"; "Fields are parted by one space; hexadecimal digits are lower case; alignment
+-- x and y have eight of them, a missing alignment is one `-`, and version, sides and counts are decimal".
 use Rattle.std.specs.Prelude.{ℕ, zero, suc, ◌/◌, ◌%◌, cond, List, [], ◌∷◌, ◌++◌, ltb, Float}
 use Rattle.std.specs.Float.{binary32, binary64}
 use Rattle.std.specs.Float.Ieee.{to_bits}

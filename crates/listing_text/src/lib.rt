@@ -4,14 +4,14 @@
 ghost use Rattle.std.specs.Prelude.{◌≡◌, ◌++◌, ◌*◌, ◌≤◌, length, take, drop, IfOk, IfErr};
 ghost use Rattle.lcr_core.specs.Outcome.{number_of};
 ghost use Rattle.finders.specs.Answer.{find_refusal};
-ghost use Rattle.listing_text.specs.Inner.{Passed, Wrote, found_text};
+ghost use Rattle.listing_text.specs.Inner.{ListingPassed, Wrote, found_text};
 ghost use Rattle.listing_text.specs.Listing.{chain_text, listing_refusal, listing_of, listing_room, written_in};
 
 use binary::picture::LentBits;
 use blocks::Blocks;
 use candidates::eight_in;
 use finders::MAX_FINDERS;
-use image::gray::LentPixels;
+use gray::LentPixels;
 use lcr_core::{Refusal, check_sides};
 use lines::{put_list, put_refusal};
 use stages::Slices;
@@ -22,6 +22,7 @@ mod pieces;
 // Room for any listing.
 pub const ROOM: usize = 84 + 48 * MAX_FINDERS + 193 * 3;
 
+// How many pixels there are.
 fn area(width: u32, height: u32) -> u64
     ensures { result ≡ width * height }
 {
@@ -59,7 +60,7 @@ fn put_searched(bits: LentBits<'_>, text: &mut [u8]) -> Result<u32, Refusal>
     Ok(put_list(text, bits.width, bits.height, found, detected))
 }
 
-// The same, or its refusal.
+// The text of a picture whose denoised bits these are, at the front: its finders and detections, or the search's refusal.
 fn put_found(bits: LentBits<'_>, text: &mut [u8]) -> u32
     ensures text { let p = bits.entry in Wrote (found_text p.bits.now p.width p.height) 0 text.old result text.new }
     ensures most { result ≤ listing_room }
@@ -72,7 +73,7 @@ fn put_found(bits: LentBits<'_>, text: &mut [u8]) -> u32
 
 // The text of a gray picture that passed the checks, so that the stages don't refuse it.
 fn put_picture(picture: &[u8], width: u32, height: u32, text: &mut [u8]) -> u32
-    requires { Passed width height picture.now }
+    requires { ListingPassed width height picture.now }
     ensures text { Wrote (chain_text picture.now width height) 0 text.old result text.new }
     ensures most { result ≤ listing_room }
 {

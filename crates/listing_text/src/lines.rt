@@ -3,16 +3,16 @@ ghost use Rattle.std.specs.Prelude.{◌≡◌, ℕ, List, ◌+◌, ◌*◌, ◌^
 ghost use Rattle.std.proofs.Common.{lit≤};
 ghost use Rattle.lists.specs.Lists.{flat_map};
 ghost use Rattle.finders.specs.Search.{max_finders};
-ghost use Rattle.finders.specs.Answer.{held_in, table_of as finders_table};
-ghost use Rattle.candidates.specs.Candidates.{table_of};
+ghost use Rattle.finders.specs.Answer.{held_in, finders_table};
+ghost use Rattle.candidates.specs.Candidates.{detections_table};
 ghost use Rattle.listing_text.specs.Inner.{Adds, Wrote, spaced};
 ghost use Rattle.listing_text.specs.Listing.{refused_line, head_line, finder_line, marker_fields, number_fields, detection_line, list_text, detections_in, single_room, double_room, head_room, finder_room, detection_room, listing_room};
 
 use crate::pieces::Text;
 use candidates::{Detection, Detections};
 use finders::Finders;
-use geometry::Finder;
-use transform::Point;
+use lcr_core::finder::Finder;
+use lcr_core::point::Point;
 
 const SPACE: u8 = b' ';
 
@@ -127,7 +127,7 @@ pub fn put_list(
     found: Finders,
     detected: Detections,
 ) -> u32
-    ensures text { (fs : List Finder) (ds : List Detection) → found ≡ finders_table fs → detected ≡ table_of ds → Wrote (list_text width height fs ds) 0 text.old result text.new }
+    ensures text { (fs : List Finder) (ds : List Detection) → found ≡ finders_table fs → detected ≡ detections_table ds → Wrote (list_text width height fs ds) 0 text.old result text.new }
     ensures most { result ≤ listing_room }
 {
     let mut out = Text { text, at: 0 };

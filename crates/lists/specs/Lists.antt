@@ -1,5 +1,5 @@
--- Lists given element by element, folds, filters and counts, over any element type. Definitions only.
-use Rattle.std.specs.Prelude.{ℕ, zero, suc, ◌+◌, ◌-◌, Bool, cond, List, [], ◌∷◌, ◌++◌, ◌⊎◌, length, drop, replicate}
+-- To be believed. Lists given element by element, folds, filters and counts, over any element type.
+use Rattle.std.specs.Prelude.{ℕ, zero, suc, ◌+◌, ◌-◌, ◌/◌, min, max, get_or, Bool, cond, List, [], ◌∷◌, ◌++◌, ◌⊎◌, length, drop, replicate}
 
 -- f 0, f 1, .., f (n - 1)
 unfoldable pub tabulate : {A : Type 0} → ℕ → (ℕ → A) → List A
@@ -61,6 +61,28 @@ Each P (x ∷ xs) = P x × Each P xs
 abbrev pub Some : {A : Type 0} → (A → Type 0) → List A → Type 0
 Some P [] = ⊥
 Some P (x ∷ xs) = P x ⊎ Some P xs
+
+-- ---- lists of numbers
+
+-- what stands at place i, 0 beyond the end
+abbrev pub at : List ℕ → ℕ → ℕ
+at l i = get_or l i 0
+
+-- all added up
+abbrev pub sum : List ℕ → ℕ
+sum l = folded ◌+◌ 0 l
+
+-- the mean, rounded down
+abbrev pub mean : List ℕ → ℕ
+mean l = sum l / length l
+
+-- the least of bytes: 255 where there is none
+abbrev pub least : List ℕ → ℕ
+least l = folded min 255 l
+
+-- the greatest of bytes: 0 where there is none
+abbrev pub greatest : List ℕ → ℕ
+greatest l = folded max 0 l
 
 -- |m - n|
 abbrev pub dist : ℕ → ℕ → ℕ

@@ -1,10 +1,20 @@
--- Numbers as bytes, the lowest first, as the stored list and the firmware's detections have them (document 01). Definitions only.
-use Rattle.std.specs.Prelude.{ℕ, zero, suc, ◌+◌, ◌*◌, ◌/◌, ◌%◌, List, [], ◌∷◌, get_or, set}
+-- To be believed. Numbers as bytes, the lowest first, as the stored list and the firmware's detections have them (document 01).
+use Rattle.std.specs.Prelude.{ℕ, zero, suc, ◌+◌, ◌*◌, ◌/◌, ◌%◌, List, [], ◌∷◌, get_or, set, Float}
+use Rattle.std.specs.Float.{binary32, binary64}
+use Rattle.std.specs.Float.Ieee.{to_bits}
 
 -- the k lowest bytes of n
 unfoldable pub bytes_le : ℕ → ℕ → List ℕ
 bytes_le zero n = []
 bytes_le (suc k) n = n % 256 ∷ bytes_le k (n / 256)
+
+-- an f32 by its bits, in four bytes
+abbrev pub single_bytes : Float → List ℕ
+single_bytes x = bytes_le 4 (to_bits binary32 x)
+
+-- an f64 by its bits, in eight bytes
+abbrev pub double_bytes : Float → List ℕ
+double_bytes x = bytes_le 8 (to_bits binary64 x)
 
 -- the number of the k bytes from place i on; a byte beyond the list is 0
 unfoldable pub read_le : ℕ → List ℕ → ℕ → ℕ

@@ -13,9 +13,9 @@ use lib.Seq.{ext_get_or}
 use lib.Ieee.{Float, nan, lt, eq}
 use borrow.Author.Tests.{lt-ltb, le-ltb}
 use Rattle.float.specs.Floats.{abs_of}
-use Rattle.float.specs.Steps.{minus64, times64, over64}
+use Rattle.float.specs.Steps.{◌⊟◌, ◌⊠◌, ◌⧄◌}
 use Rattle.float.specs.Constants.{d0, d1e_12}
-use Rattle.math.specs.Solve.{Matrix, Vector, swapped, reduced, pivot_row, pivoted, row_cleared, cleared, upper, small_pivot, singular, remainder, unknowns, first, solution_of}
+use Rattle.math.specs.Solve.{Matrix, Vector, swapped, reduced, pivot_row, pivoted, row_cleared, cleared, upper, small_pivot, singular, remainder, unknowns, first_unknowns, solution_of}
 use Rattle.math.proofs.Systems.{set_at}
 
 -- ---- the pivot's row
@@ -34,11 +34,11 @@ module _ (m : Matrix) (c : ℕ) where
       q ∙ ap (λ (b : Bool). cond b r p) (sym t) ∙ ap (λ (p : ℕ). cond (lt (abs_of (m p c)) (abs_of (m r c))) r p) e ∙ sym (pivot_more r h)
 
 -- ---- row r cleared, and one row more
-pub row_left : (m : Matrix) (c r : ℕ) → eq (over64 (m r c) (m c c)) d0 ≡ true → m ≡ row_cleared m c r
+pub row_left : (m : Matrix) (c r : ℕ) → eq (m r c ⧄ m c c) d0 ≡ true → m ≡ row_cleared m c r
 unfolding row_cleared
 row_left m c r e = rw e
 
-pub row-reduced : (m : Matrix) (c r : ℕ) → eq (over64 (m r c) (m c c)) d0 ≡ false → reduced m c r (over64 (m r c) (m c c)) ≡ row_cleared m c r
+pub row-reduced : (m : Matrix) (c r : ℕ) → eq (m r c ⧄ m c c) d0 ≡ false → reduced m c r (m r c ⧄ m c c) ≡ row_cleared m c r
 unfolding row_cleared
 row-reduced m c r e = rw e
 
@@ -97,7 +97,7 @@ module _ (n : ℕ) (u : Matrix) (r : ℕ) (x : Vector) where
   remainder_low zero h = refl
   remainder_low (suc k) h = rw (le-ltb r k (omega arith)) (remainder_low k (omega arith))
 
-  pub remainder_more : (k : ℕ) → r < k → remainder n u r x (k + 1) ≡ minus64 (remainder n u r x k) (times64 (u r k) (x k))
+  pub remainder_more : (k : ℕ) → r < k → remainder n u r x (k + 1) ≡ remainder n u r x k ⊟ u r k ⊠ x k
   unfolding remainder
   remainder_more k h = rw (add-one k, lt-ltb r k h)
 
@@ -107,33 +107,33 @@ module _ (n : ℕ) (u : Matrix) where
   unknowns-none k = ap (λ (j : ℕ). unknowns n u j k) (sub_self n)
 
   unknowns_more : (r k : ℕ) → 0 < r → r ≤ n
-      → unknowns n u (n - (r - 1)) k ≡ cond (eqb k (r - 1)) (over64 (remainder n u (r - 1) (unknowns n u (n - r)) n) (u (r - 1) (r - 1))) (unknowns n u (n - r) k)
+      → unknowns n u (n - (r - 1)) k ≡ cond (eqb k (r - 1)) (remainder n u (r - 1) (unknowns n u (n - r)) n ⧄ u (r - 1) (r - 1)) (unknowns n u (n - r) k)
   unfolding unknowns
   unknowns_more r k h l =
       let up : n - (r - 1) ≡ suc (n - r) = omega arith in
       let row : n - suc (n - r) ≡ r - 1 = omega arith in
       ap (λ (j : ℕ). unknowns n u j k) up
-      ∙ ap (λ (i : ℕ). cond (eqb k i) (over64 (remainder n u i (unknowns n u (n - r)) n) (u i i)) (unknowns n u (n - r) k)) row
+      ∙ ap (λ (i : ℕ). cond (eqb k i) (remainder n u i (unknowns n u (n - r)) n ⧄ u i i) (unknowns n u (n - r) k)) row
 
 -- one unknown more
 pub unknowns_turn : (n : ℕ) (u : Matrix) (r : ℕ) (x : List Float) (v : Float) → 0 < r → r ≤ n → r - 1 < length x → ((k : ℕ) → k < n → get_or x k nan ≡ unknowns n u (n - r) k)
-    → v ≡ over64 (remainder n u (r - 1) (unknowns n u (n - r)) n) (u (r - 1) (r - 1)) → (k : ℕ) → k < n → get_or (set x (r - 1) v) k nan ≡ unknowns n u (n - (r - 1)) k
+    → v ≡ remainder n u (r - 1) (unknowns n u (n - r)) n ⧄ u (r - 1) (r - 1) → (k : ℕ) → k < n → get_or (set x (r - 1) v) k nan ≡ unknowns n u (n - (r - 1)) k
 unknowns_turn n u r x v h l g is e k b =
     set_at x (r - 1) k v nan g ∙ ap (λ (w : Float). cond (eqb k (r - 1)) w (get_or x k nan)) e
-    ∙ ap (λ (w : Float). cond (eqb k (r - 1)) (over64 (remainder n u (r - 1) (unknowns n u (n - r)) n) (u (r - 1) (r - 1))) w) (is k b)
+    ∙ ap (λ (w : Float). cond (eqb k (r - 1)) (remainder n u (r - 1) (unknowns n u (n - r)) n ⧄ u (r - 1) (r - 1)) w) (is k b)
     ∙ sym (unknowns_more n u r k h l)
 
-pub first_at : (n : ℕ) (y : Vector) (k : ℕ) → k < n → get_or (first n y) k nan ≡ y k
+pub first_at : (n : ℕ) (y : Vector) (k : ℕ) → k < n → get_or (first_unknowns n y) k nan ≡ y k
 first_at zero y k h = absurd (omega arith)
 first_at (suc n) y zero h = refl
 first_at (suc n) y (suc k) h = first_at n (λ i. y (suc i)) k (omega arith)
 
-length-first : (n : ℕ) (y : Vector) → length (first n y) ≡ n
+length-first : (n : ℕ) (y : Vector) → length (first_unknowns n y) ≡ n
 length-first zero y = refl
 length-first (suc n) y = ap suc (length-first n (λ i. y (suc i)))
 
-pub first_is : (n : ℕ) (x : List Float) (y : Vector) → length x ≡ n → ((k : ℕ) → k < n → get_or x k nan ≡ y k) → x ≡ first n y
-first_is n x y l h = ext_get_or nan x (first n y) (l ∙ sym (length-first n y)) (λ k g. h k (omega arith) ∙ sym (first_at n y k (omega arith)))
+pub first_is : (n : ℕ) (x : List Float) (y : Vector) → length x ≡ n → ((k : ℕ) → k < n → get_or x k nan ≡ y k) → x ≡ first_unknowns n y
+first_is n x y l h = ext_get_or nan x (first_unknowns n y) (l ∙ sym (length-first n y)) (λ k g. h k (omega arith) ∙ sym (first_at n y k (omega arith)))
 
 -- ---- the answer
 not_true : (b : Bool) → true ≡ not b → b ≡ false
@@ -145,7 +145,7 @@ not_false true h = refl
 not_false false h = absurd (true≢false (sym h))
 
 module _ (n : ℕ) (m : Matrix) (ok : Bool) (e : ok ≡ not (singular n m n)) where
-  pub found_is : ok ≡ true → (x : List Float) → x ≡ first n (unknowns n (upper n m n) n) → Some x ≡ solution_of n m
+  pub found_is : ok ≡ true → (x : List Float) → x ≡ first_unknowns n (unknowns n (upper n m n) n) → Some x ≡ solution_of n m
   unfolding solution_of
   found_is h x g = rw (not_true (singular n m n) (sym h ∙ e), g)
 

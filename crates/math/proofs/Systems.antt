@@ -7,7 +7,7 @@ use lib.ListN.{length-set}
 use lib.Seq.{get_or-set_same, get_or-set_other}
 use lib.Ieee.{Float, nan}
 use borrow.Author.Tests.{ltb-true, ltb-false, lt-ltb, le-ltb, eqb-true, eqb-false, eq-eqb, ne_eqb, le-leb, lt-leb}
-use Rattle.float.specs.Steps.{minus64, times64}
+use Rattle.float.specs.Steps.{◌⊟◌, ◌⊠◌}
 use prog.Memory.{up}
 use native.Mathlib.Nat.{mul-le-mul, mul-le-mul_right}
 use Rattle.math.specs.Solve.{augmented, swapped, reduced}
@@ -62,17 +62,17 @@ swapped_is n a a' b b' p q pa qa pb qb e g = rw (e, g) (fun_ext (λ r. fun_ext (
 
 -- ---- a multiple of row c taken from row r, and of its right-hand side
 pub side_less : (b : List Float) (c r : ℕ) (f : Float) → r < length b → (i : ℕ)
-    → get_or (set b r (minus64 (get_or b r nan) (times64 f (get_or b c nan)))) i nan ≡ cond (eqb i r) (minus64 (get_or b i nan) (times64 f (get_or b c nan))) (get_or b i nan)
+    → get_or (set b r (get_or b r nan ⊟ f ⊠ get_or b c nan)) i nan ≡ cond (eqb i r) (get_or b i nan ⊟ f ⊠ get_or b c nan) (get_or b i nan)
 side_less b c r f h i =
     set_at b r i _ nan h
     ∙ ⊎_elim
-    (λ e. subst (λ (i : ℕ). cond (eqb i r) (minus64 (get_or b r nan) (times64 f (get_or b c nan))) (get_or b i nan) ≡ cond (eqb i r) (minus64 (get_or b i nan) (times64 f (get_or b c nan))) (get_or b i nan)) (sym e) refl)
+    (λ e. subst (λ (i : ℕ). cond (eqb i r) (get_or b r nan ⊟ f ⊠ get_or b c nan) (get_or b i nan) ≡ cond (eqb i r) (get_or b i nan ⊟ f ⊠ get_or b c nan) (get_or b i nan)) (sym e) refl)
     (λ ne. rw (ne_eqb i r ne))
     (same_or_not i r)
 
 pub reduced_is : (n c r : ℕ) (f : Float) (a : List (List Float)) (b b' row : List Float) → c < n → r < length a
-    → ((j : ℕ) → j < c → get_or row j nan ≡ at a r j) → ((j : ℕ) → c ≤ j → j < n → get_or row j nan ≡ minus64 (at a r j) (times64 f (at a c j)))
-    → ((i : ℕ) → get_or b' i nan ≡ cond (eqb i r) (minus64 (get_or b i nan) (times64 f (get_or b c nan))) (get_or b i nan))
+    → ((j : ℕ) → j < c → get_or row j nan ≡ at a r j) → ((j : ℕ) → c ≤ j → j < n → get_or row j nan ≡ at a r j ⊟ f ⊠ at a c j)
+    → ((i : ℕ) → get_or b' i nan ≡ cond (eqb i r) (get_or b i nan ⊟ f ⊠ get_or b c nan) (get_or b i nan))
     → augmented n (set a r row) b' ≡ reduced (augmented n a b) c r f
 unfolding reduced
 reduced_is n c r f a b b' row h g before after side = fun_ext (λ i. fun_ext (λ j. ⊎_elim (left i j) (right i j) (below_or_not j n)))
@@ -96,7 +96,7 @@ reduced_is n c r f a b b' row h g before after side = fun_ext (λ i. fun_ext (λ
     right : (i j : ℕ) → n ≤ j → augmented n (set a r row) b' i j ≡ reduced (augmented n a b) c r f i j
     right i j l =
         right_of n (set a r row) b' i j l ∙ side i
-        ∙ rw (right_of n a b i j l, right_of n a b c j l, le-leb c j (omega arith)) (ap (λ (s : Bool). cond s (minus64 (get_or b i nan) (times64 f (get_or b c nan))) (get_or b i nan)) (go (eqb i r)))
+        ∙ rw (right_of n a b i j l, right_of n a b c j l, le-leb c j (omega arith)) (ap (λ (s : Bool). cond s (get_or b i nan ⊟ f ⊠ get_or b c nan) (get_or b i nan)) (go (eqb i r)))
       where
         go : (s : Bool) → s ≡ (s && true)
         go true = refl

@@ -1,11 +1,11 @@
--- `solve` of document 005, at any size: Gaussian elimination with partial pivoting, and back substitution. Document 01: "`solve` (on fixed tables of
--- size 6 or 8)" refuses nothing, "none" is its answer where the Rust gives `None`, and the floats handed in may be any. Steps are f64, in the order
--- written. Definitions only.
+-- To be believed. `solve` of document 005, at any size: Gaussian elimination with partial pivoting, and back substitution. Document 01: "`solve` (on fixed
+-- tables of size 6 or 8)" refuses nothing, "none" is its answer where the Rust gives `None`, and the floats handed in may be any. Steps are f64, in the order
+-- written.
 use Rattle.std.specs.Prelude.{Bool, false, cond, ◌&&◌, ◌||◌, List, [], ◌∷◌, ℕ, zero, suc, ◌-◌, leb, ltb, eqb, get_or, Option, Some, None, Float}
 use Rattle.std.specs.Float.{nan}
 use Rattle.std.specs.Float.Ieee.{lt, eq}
 use Rattle.float.specs.Floats.{abs_of}
-use Rattle.float.specs.Steps.{minus64, times64, over64}
+use Rattle.float.specs.Steps.{◌⊟◌, ◌⊠◌, ◌⧄◌}
 use Rattle.float.specs.Constants.{d0, d1e_12}
 
 -- ---- the system
@@ -30,7 +30,7 @@ swapped m p q r = m (cond (eqb r q) p (cond (eqb r p) q r))
 
 -- row r loses f times row c, from column c on
 unfoldable pub reduced : Matrix → ℕ → ℕ → Float → Matrix
-reduced m c r f i k = cond (eqb i r && leb c k) (minus64 (m i k) (times64 f (m c k))) (m i k)
+reduced m c r f i k = cond (eqb i r && leb c k) (m i k ⊟ f ⊠ m c k) (m i k)
 
 -- ---- elimination
 
@@ -45,7 +45,7 @@ pivoted n m c = swapped m c (pivot_row m c n)
 
 -- row r cleared of column c by row c; it is left where the multiple is 0
 unfoldable pub row_cleared : Matrix → ℕ → ℕ → Matrix
-row_cleared m c r = let f = over64 (m r c) (m c c) in cond (eq f d0) m (reduced m c r f)
+row_cleared m c r = let f = m r c ⧄ m c c in cond (eq f d0) m (reduced m c r f)
 
 -- the rows after c and before n cleared of column c, one after the other
 unfoldable pub cleared : Matrix → ℕ → ℕ → Matrix
@@ -71,7 +71,7 @@ singular n m (suc c) = singular n m c || small_pivot n m c
 -- row r's right-hand side less the products u r k * x k, for the k from r + 1 below j, one after the other
 unfoldable pub remainder : ℕ → Matrix → ℕ → Vector → ℕ → Float
 remainder n u r x zero = u r n
-remainder n u r x (suc k) = let s = remainder n u r x k in cond (ltb r k) (minus64 s (times64 (u r k) (x k))) s
+remainder n u r x (suc k) = let s = remainder n u r x k in cond (ltb r k) (s ⊟ u r k ⊠ x k) s
 
 -- the last j of the n unknowns, from the last row up; the others stand at 0
 unfoldable pub unknowns : ℕ → Matrix → ℕ → Vector
@@ -79,15 +79,15 @@ unknowns n u zero k = d0
 unknowns n u (suc j) k =
     let r = n - suc j in
     let x = unknowns n u j in
-    cond (eqb k r) (over64 (remainder n u r x n) (u r r)) (x k)
+    cond (eqb k r) (remainder n u r x n ⧄ u r r) (x k)
 
 -- ---- the answer
 
 -- the first n
-abbrev pub first : ℕ → Vector → List Float
-first zero x = []
-first (suc n) x = x 0 ∷ first n (λ k. x (suc k))
+abbrev pub first_unknowns : ℕ → Vector → List Float
+first_unknowns zero x = []
+first_unknowns (suc n) x = x 0 ∷ first_unknowns n (λ k. x (suc k))
 
 -- none where a pivot is below 1e-12; the n unknowns where none is
 unfoldable pub solution_of : ℕ → Matrix → Option (List Float)
-solution_of n m = cond (singular n m n) None (Some (first n (unknowns n (upper n m n) n)))
+solution_of n m = cond (singular n m n) None (Some (first_unknowns n (unknowns n (upper n m n) n)))

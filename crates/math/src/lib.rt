@@ -5,8 +5,8 @@ ghost use Rattle.std.specs.Prelude.{◌≡◌, true, not, ℕ, ◌<◌, ◌≤�
 ghost use Rattle.std.specs.Float.{nan};
 ghost use Rattle.std.specs.Float.Ieee.{lt};
 ghost use Rattle.float.specs.Floats.{abs_of};
-ghost use Rattle.float.specs.Steps.{minus64, times64, over64};
-ghost use Rattle.math.specs.Solve.{Vector, augmented, pivot_row, swapped, reduced, row_cleared, cleared, upper, singular, remainder, unknowns, first, solution_of};
+ghost use Rattle.float.specs.Steps.{◌⊟◌, ◌⊠◌, ◌⧄◌};
+ghost use Rattle.math.specs.Solve.{Vector, augmented, pivot_row, swapped, reduced, row_cleared, cleared, upper, singular, remainder, unknowns, first_unknowns, solution_of};
 
 use float::Float;
 
@@ -30,7 +30,7 @@ fn larger(x: f64, y: f64) -> bool
 fn reduce<const N: usize>(row: &mut [f64; N], pivot: &[f64; N], c: usize, f: f64)
     ensures len { length row.new ≡ N }
     ensures before { (k : ℕ) → k < c → get_or row.new k nan ≡ get_or row.old k nan }
-    ensures after { (k : ℕ) → c ≤ k → k < N → get_or row.new k nan ≡ minus64 (get_or row.old k nan) (times64 f (get_or pivot.now k nan)) }
+    ensures after { (k : ℕ) → c ≤ k → k < N → get_or row.new k nan ≡ get_or row.old k nan ⊟ f ⊠ get_or pivot.now k nan }
 {
     for k in c..N {
         row[k] = row[k] - f * pivot[k];
@@ -115,7 +115,7 @@ impl<const N: usize> System<N> {
 
     fn unknown(&self, r: usize, x: &[f64; N]) -> f64
         requires r_lt_n { r < N }
-        ensures { (y : Vector) → ((k : ℕ) → k < N → get_or x.now k nan ≡ y k) → result ≡ over64 (remainder N (augmented N self.now.a self.now.b) r y N) (augmented N self.now.a self.now.b r r) }
+        ensures { (y : Vector) → ((k : ℕ) → k < N → get_or x.now k nan ≡ y k) → result ≡ remainder N (augmented N self.now.a self.now.b) r y N ⧄ augmented N self.now.a self.now.b r r }
     {
         let mut s = self.b[r];
         for k in r + 1..N {
@@ -125,7 +125,7 @@ impl<const N: usize> System<N> {
     }
 
     fn back_substitute(&self) -> [f64; N]
-        ensures { result ≡ first N (unknowns N (augmented N self.now.a self.now.b) N) }
+        ensures { result ≡ first_unknowns N (unknowns N (augmented N self.now.a self.now.b) N) }
     {
         let mut x = [0.0; N];
         for r in (0..N).rev() {

@@ -1,43 +1,34 @@
 -- What holds of an entry with any limit, and of any checks that it makes behind these (document 02, N2). Assumes nothing.
+use Rattle.std.proofs.lemmas.Bool.{or_parts}
 use mathlib.Core.Path.{◌≡◌, refl, sym, ap, ◌∙◌}
 use mathlib.Core.Bool.{Bool, true, false, cond, ◌||◌}
 use Prim.Native.Nat.{ℕ, zero, suc, ◌≤◌}
 use native.Mathlib.Omega.{arith}
 use lib.Dec.{ltb}
 use borrow.Author.Tests.{ltb-false}
-use Rattle.std.specs.Prelude.{List, [], ◌∷◌, ◌++◌, take, Result, Err}
+use Rattle.std.specs.Prelude.{List, ◌++◌, take, Result, Err}
 use Rattle.lists.specs.Lists.{Each, written}
 use Rattle.lcr_core.specs.Answer.{behind}
-use Rattle.lcr_core.specs.Outcome.{Check, refusal_number, number_of, first_of, unless, zero_side, large_side}
+use Rattle.lcr_core.specs.Outcome.{Check, refusal_number, number_of, first_of, if_refused, zero_side, large_side}
 use Rattle.lcr_core.specs.declared.Refusal.{Refusal}
 use Rattle.lcr_core.specs.declared.Refusal.TheVariants.{ZeroSide, LargeSide}
-use Rattle.lcr_core.proofs.Checks.{or_false, some_number, part_passes, passed_first}
+use Rattle.lcr_core.proofs.Checks.{some_number, part_passes, passed_first}
 use Rattle.lcr_core.proofs.Answers.{number_behind}
-use Rattle.stages.specs.Stages.{stages_checks, stages_refusal}
-use Rattle.stages.specs.Pictures.{left_after}
-use Rattle.stages.proofs.Closed.{left_other}
+use Rattle.stages.specs.Stages.{Room, stages_checks, stages_refusal}
+use Rattle.stages.specs.Pictures.{Picture, left_after}
+use Rattle.stages.proofs.Closed.{Other, not_six, left_other}
 use Rattle.preview.specs.Limit.{Limit, full_limit, over_limit, limited_checks}
 
--- a check that does not give 6
-abbrev pub Other : Check → Type 0
-Other c = refusal_number c.refusal ≡ 6 → ⊥
+module _ (p : Picture) (r : Room) where
+  abbrev w : ℕ
+  w = p.width
 
-not_six : (cs : List Check) → Each Other cs → first_of cs ≡ 6 → ⊥
-not_six [] each e = omega arith
-not_six (c ∷ cs) each e = go c.refuses e (not_six cs each.1)
-  where
-    go : (b : Bool) → cond b (refusal_number c.refusal) (first_of cs) ≡ 6 → (first_of cs ≡ 6 → ⊥) → ⊥
-    go true e later = each.0 e
-    go false e later = later e
+  abbrev h : ℕ
+  h = p.height
 
--- after a refusal of such checks nothing is written
-pub refused_untouched : (cs : List Check) → Each Other cs → (n : ℕ) → n ≡ first_of cs → (n ≡ 0 → ⊥) → (new old : List ℕ) → old ≡ left_after n new old
-refused_untouched cs each n g z = left_other n z (λ e. not_six cs each (sym g ∙ e))
-
-module _ (len w h s f gray bits denoised : ℕ) (work : List ℕ) where
   -- the full entry is the one with the limit 4,096: its checks are those of before, whatever is checked and answered behind them
   pub full_is : {A : Type 0} (ks : List Check) (a : Result A Refusal)
-      → behind (limited_checks full_limit len w h s f gray bits denoised work ++ ks) a ≡ behind (stages_checks len w h s f gray bits denoised work ++ ks) a
+      → behind (limited_checks full_limit p r ++ ks) a ≡ behind (stages_checks p r ++ ks) a
   unfolding over_limit large_side
   full_is {A = A} ks a = go (zero_side w h) (ltb 4096 w || ltb 4096 h) _
     where
@@ -49,10 +40,10 @@ module _ (len w h s f gray bits denoised : ℕ) (work : List ℕ) where
   module _ (l : Limit) where
     -- its checks
     abbrev cs : List Check
-    cs = limited_checks l len w h s f gray bits denoised work
+    cs = limited_checks l p r
 
     -- 1, then the limit's, then the stages'
-    pub in_order : first_of cs ≡ cond (zero_side w h) 1 (cond (over_limit l w h) (refusal_number l.refusal) (stages_refusal len w h s f gray bits denoised work))
+    pub in_order : first_of cs ≡ cond (zero_side w h) 1 (cond (over_limit l w h) (refusal_number l.refusal) (stages_refusal p r))
     unfolding stages_refusal
     in_order = go (zero_side w h) (over_limit l w h) _ _
       where
@@ -61,19 +52,19 @@ module _ (len w h s f gray bits denoised : ℕ) (work : List ℕ) where
         go false o n r = refl
 
     -- what passes the first two is refused as the stages refuse it
-    pub frame_passed : 0 ≡ first_of (take 2 cs) → stages_refusal len w h s f gray bits denoised work ≡ first_of cs
+    pub frame_passed : 0 ≡ first_of (take 2 cs) → stages_refusal p r ≡ first_of cs
     unfolding stages_refusal
     frame_passed e =
         let z : 0 ≡ first_of (take 1 cs) = part_passes 1 (take 2 cs) e in
-        sym (passed_first 1 (stages_checks len w h s f gray bits denoised work) z) ∙ passed_first 2 cs e
+        sym (passed_first 1 (stages_checks p r) z) ∙ passed_first 2 cs e
 
     -- what it takes is within the limit, and the full entry takes it too
-    pub taken : 0 ≡ first_of cs → (w ≤ l.width) × (h ≤ l.height) × (0 ≡ stages_refusal len w h s f gray bits denoised work)
+    pub taken : 0 ≡ first_of cs → (w ≤ l.width) × (h ≤ l.height) × (0 ≡ stages_refusal p r)
     unfolding over_limit
     taken e =
-        let p = part_passes 2 cs e in
-        let q = or_false (ltb l.width w) (ltb l.height h) (within p) in
-        (ltb-false l.width w q.0, ltb-false l.height h q.1, e ∙ sym (frame_passed p))
+        let f = part_passes 2 cs e in
+        let q = or_parts (ltb l.width w) (ltb l.height h) (within f) in
+        (ltb-false l.width w q.0, ltb-false l.height h q.1, e ∙ sym (frame_passed f))
       where
         within : 0 ≡ first_of (take 2 cs) → over_limit l w h ≡ false
         within = go (zero_side w h) (over_limit l w h)
@@ -97,7 +88,7 @@ module _ (len w h s f gray bits denoised : ℕ) (work : List ℕ) where
         pub nothing_written : (first_of (cs ++ ks) ≡ 0 → ⊥) → (new old : List ℕ) → left_after n new old ≡ old
         nothing_written z new old = go (first_of (cs ++ ks)) z (not_six (cs ++ ks) all_others) (number_behind (cs ++ ks) a)
           where
-            go : (m : ℕ) → (m ≡ 0 → ⊥) → (m ≡ 6 → ⊥) → n ≡ unless m m (number_of a) → left_after n new old ≡ old
+            go : (m : ℕ) → (m ≡ 0 → ⊥) → (m ≡ 6 → ⊥) → n ≡ if_refused m m (number_of a) → left_after n new old ≡ old
             go zero z k e = absurd (z refl)
             go (suc m) z k e = ap (λ (n : ℕ). left_after n new old) e ∙ sym (left_other (suc m) z k new old)
 
@@ -105,7 +96,7 @@ module _ (len w h s f gray bits denoised : ℕ) (work : List ℕ) where
         pub six_takes : n ≡ 6 → 0 ≡ first_of (cs ++ ks)
         six_takes e = go (first_of (cs ++ ks)) (not_six (cs ++ ks) all_others) (sym e ∙ number_behind (cs ++ ks) a)
           where
-            go : (m : ℕ) → (m ≡ 6 → ⊥) → 6 ≡ unless m m (number_of a) → 0 ≡ m
+            go : (m : ℕ) → (m ≡ 6 → ⊥) → 6 ≡ if_refused m m (number_of a) → 0 ≡ m
             go zero k e = refl
             go (suc m) k e = absurd (k (sym e))
 

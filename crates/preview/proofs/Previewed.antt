@@ -6,13 +6,12 @@ use native.Mathlib.Omega.{arith}
 use lib.Dec.{ltb}
 use lib.ListN.{length}
 use borrow.Author.Tests.{le-ltb, ltb-false}
-use Rattle.std.specs.Prelude.{List, [], ◌∷◌, ◌++◌, map, Result, Ok}
+use Rattle.std.specs.Prelude.{List, [], ◌∷◌, ◌++◌, Result, Ok}
 use Rattle.lists.specs.Lists.{Each, written}
 use Rattle.lcr_core.specs.Answer.{behind}
-use Rattle.lcr_core.specs.Outcome.{Check, refusal_number, number_of, first_of, unless, zero_side, large_side}
+use Rattle.lcr_core.specs.Outcome.{Check, number_of, first_of, if_refused, zero_side, large_side}
 use Rattle.lcr_core.specs.declared.Refusal.{Refusal}
-use Rattle.lcr_core.specs.declared.Refusal.TheVariants.{ShortOutput, LargeFrame}
-use Rattle.lcr_core.proofs.Checks.{first_passes, part_passes, passed_first, unless_done}
+use Rattle.lcr_core.proofs.Checks.{first_passes, part_passes, passed_first, if_refused_done}
 use Rattle.lcr_core.proofs.Answers.{behind_passed}
 use Rattle.finders.specs.declared.Finders.{Finders}
 use Rattle.finders.specs.Search.{max_finders, found}
@@ -20,36 +19,39 @@ use Rattle.finders.specs.Answer.{is_over, held_in, finders_in, finders_of, answe
 use Rattle.finders.proofs.Outcomes.{answer_number, answer_table}
 use Rattle.finders.proofs.Theorems.{few_finders}
 use Rattle.candidates.proofs.Tails.{search_tail}
-use Rattle.image.specs.declared.gray.LentPixels.{LentPixels}
-use Rattle.stages.specs.declared.Slices.{Slices}
-use Rattle.stages.specs.Lent.{work_in}
-use Rattle.stages.specs.Stages.{stages_refusal}
-use Rattle.stages.specs.Pictures.{denoised_picture, left_after}
+use Rattle.stages.specs.Stages.{Room, stages_refusal}
+use Rattle.stages.specs.Pictures.{Picture, denoised_picture, left_after}
+use Rattle.stages.proofs.Closed.{Other}
 use Rattle.stages.proofs.Theorems.{denoised_first}
 use Rattle.stored.specs.Stored.{stored_bytes, size_of, many_finders, short_output, write_refusal}
 use Rattle.chain.proofs.Theorems.{search_six}
 use Rattle.preview.specs.Limit.{Limit, preview_limit, limited_checks}
-use Rattle.preview.specs.Preview.{preview_of, short_list, list_after}
-use Rattle.preview.specs.Lent.{preview_entry_checks}
-use Rattle.preview.proofs.Limits.{Other, refused_untouched, taken, all_others}
+use Rattle.preview.specs.Preview.{preview_of, short_list, preview_entry_checks, list_after}
+use Rattle.preview.proofs.Limits.{taken, all_others}
 
-module _ (p : List ℕ) (w h s f : ℕ) where
+module _ (p : Picture) where
+  abbrev w : ℕ
+  w = p.width
+
+  abbrev h : ℕ
+  h = p.height
+
   -- the search of the denoised bits, where the stages refuse with m, which is 0
-  pub previewed : (m : ℕ) → m ≡ 0 → (old done : List ℕ) → done ≡ left_after m (denoised_picture p w h s f) old → (r : Result Finders Refusal) → r ≡ answer_of done w h → r ≡ preview_of p w h s f
+  pub previewed : (m : ℕ) → m ≡ 0 → (old done : List ℕ) → done ≡ left_after m (denoised_picture p) old → (r : Result Finders Refusal) → r ≡ answer_of done w h → r ≡ preview_of p
   unfolding preview_of
-  previewed m z old done e r a = a ∙ sym (search_tail done w h) ∙ ap (λ (d : List ℕ). answer_of d w h) (denoised_first m p w h s f z old done e)
+  previewed m z old done e r a = a ∙ sym (search_tail done w h) ∙ ap (λ (d : List ℕ). answer_of d w h) (denoised_first m p z old done e)
 
-  module _ (len gray bits denoised : ℕ) (work : List ℕ) where
+  module _ (r : Room) where
     -- it refuses nothing, or 6
-    pub preview_number : stages_refusal len w h s f gray bits denoised work ≡ 0
-        → number_of (preview_of p w h s f) ≡ cond (is_over (found (denoised_picture p w h s f) w h)) 6 0
+    pub preview_number : stages_refusal p r ≡ 0
+        → number_of (preview_of p) ≡ cond (is_over (found (denoised_picture p) w h)) 6 0
     unfolding preview_of
-    preview_number e = answer_number (denoised_picture p w h s f) w h ∙ search_six p w h s f len gray bits denoised work e
+    preview_number e = answer_number (denoised_picture p) w h ∙ search_six p r e
 
     -- ---- the stored list, where the checks of an entry with a limit pass, and that of the list's slice behind them
     module _ (l : Limit) (room : ℕ) where
       abbrev cs : List Check
-      cs = limited_checks l len w h s f gray bits denoised work
+      cs = limited_checks l p r
 
       module _ (z : 0 ≡ first_of (cs ++ (short_list room ∷ []))) where
         first_six : 0 ≡ first_of cs
@@ -58,40 +60,29 @@ module _ (p : List ℕ) (w h s f : ℕ) where
         enough : size_of max_finders ≤ room
         enough = ltb-false room (size_of max_finders) (first_passes (ltb room (size_of max_finders)) 4 0 (passed_first 6 (cs ++ (short_list room ∷ [])) first_six ∙ sym z)).0
 
-        module _ (t : Finders) (g : Ok t ≡ behind cs (preview_of p w h s f)) where
-          is_preview : Ok t ≡ preview_of p w h s f
-          is_preview = g ∙ sym (behind_passed cs (preview_of p w h s f) first_six)
+        module _ (t : Finders) (g : Ok t ≡ behind cs (preview_of p)) where
+          is_preview : Ok t ≡ preview_of p
+          is_preview = g ∙ sym (behind_passed cs (preview_of p) first_six)
 
           few : t.count ≤ max_finders
           unfolding preview_of
           few =
-              let d = denoised_picture p w h s f in
+              let d = denoised_picture p in
               let k : t.count ≡ length (finders_of d w h) = ap (λ (t : Finders). t.count) (answer_table d w h t is_preview).1 in
               omega (arith, few_finders d w h, k)
 
           not_refused : write_refusal t w h room ≡ 0
           unfolding write_refusal many_finders short_output stages_refusal
           not_refused =
-              let p1 = first_passes (zero_side w h) 0 _ (sym (taken len w h s f gray bits denoised work l first_six).2) in
+              let p1 = first_passes (zero_side w h) 0 _ (sym (taken p r l first_six).2) in
               let p2 = first_passes (large_side w h) 1 _ p1.1 in
               rw (p1.0, p2.0, le-ltb max_finders t.count few, le-ltb room (size_of t.count) (omega (arith, enough, few)))
 
-          pub list_written : (n : ℕ) → n ≡ write_refusal t w h room → (x old : List ℕ) → x ≡ unless n old (written (stored_bytes w h (held_in t)) old) → x ≡ list_after 0 p w h s f old
+          pub list_written : (n : ℕ) → n ≡ write_refusal t w h room → (x old : List ℕ) → x ≡ if_refused n old (written (stored_bytes w h (held_in t)) old) → x ≡ list_after 0 p old
           list_written n k x old e =
-              e ∙ sym (unless_done n old _ (k ∙ not_refused))
+              e ∙ sym (if_refused_done n old _ (k ∙ not_refused))
               ∙ ap (λ (a : Result Finders Refusal). written (stored_bytes w h (held_in (finders_in a))) old) is_preview
 
--- ---- after a refusal of the checks of the entry for C nothing is written
-pub entry_untouched : (p : LentPixels) (s : Slices) (room n : ℕ) → n ≡ first_of (preview_entry_checks p s room) → (n ≡ 0 → ⊥) → (new old : List ℕ) → old ≡ left_after n new old
-entry_untouched p s room = refused_untouched (preview_entry_checks p s room) others
-  where
-    large_other : refusal_number LargeFrame ≡ 6 → ⊥
-    large_other e = omega arith
-
-    short_other : refusal_number ShortOutput ≡ 6 → ⊥
-    short_other e = omega arith
-
-    others : Each Other (preview_entry_checks p s room)
-    others =
-        all_others (length p.«data».now) p.width p.height p.stride p.format (length s.gray.now) (length s.bits.now) (length s.denoised.now) (map length (work_in s.blocks.now)) preview_limit
-        large_other (short_list room ∷ []) (short_other, tt)
+-- none of the checks of the entry for C gives 6
+pub entry_others : (p : Picture) (r : Room) (len : ℕ) → Each Other (preview_entry_checks p r len)
+entry_others p r len = all_others p r preview_limit (λ e. omega arith) (short_list len ∷ []) ((λ e. omega arith), tt)

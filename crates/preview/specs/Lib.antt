@@ -1,3 +1,2 @@
 pub mod Limit
 pub mod Preview
-pub mod Lent

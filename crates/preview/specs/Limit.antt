@@ -1,11 +1,11 @@
--- The limit of an entry as a parameter (document 02, N2): "Offer the preview under that limit beside the full entry with its 4,096, which stays. .. What
--- holds of both is shown with the limit as a parameter. .. New numbers: 10, a preview frame over 640 wide or 480 high, after 1 and before 2." Definitions
--- only.
-use Rattle.std.specs.Prelude.{ℕ, Bool, ◌||◌, List, ◌∷◌, ◌++◌, map, take, drop, ltb, length}
+-- To be believed. The limit of an entry as a parameter (document 02, N2): "Offer the preview under that limit beside the full entry with its 4,096, which
+-- stays. .. What holds of both is shown with the limit as a parameter. .. New numbers: 10, a preview frame over 640 wide or 480 high, after 1 and before 2."
+use Rattle.std.specs.Prelude.{ℕ, Bool, ◌||◌, List, ◌∷◌, ◌++◌, take, drop, ltb}
 use Rattle.lcr_core.specs.Outcome.{Check, max_side}
 use Rattle.lcr_core.specs.declared.Refusal.{Refusal}
 use Rattle.lcr_core.specs.declared.Refusal.TheVariants.{LargeSide, LargeFrame}
-use Rattle.stages.specs.Stages.{stages_checks}
+use Rattle.stages.specs.Stages.{Room, stages_checks}
+use Rattle.stages.specs.Pictures.{Picture}
 
 -- the widest and the highest picture that an entry takes, and the refusal of one that is wider or higher
 pub record Limit : Type 0 where
@@ -29,11 +29,6 @@ over_limit l w h = ltb l.width w || ltb l.height h
 abbrev pub limited : Limit → ℕ → ℕ → List Check → List Check
 limited l w h cs = take 1 cs ++ (record { refuses = over_limit l w h; refusal = l.refusal } ∷ drop 1 cs)
 
--- what an entry with a limit checks before a byte is written, for len picture bytes in rows of s bytes with format byte f and lent slices of these lengths:
--- 1, the limit's, 2, 3, 4, 5
-abbrev pub limited_checks : Limit → ℕ → ℕ → ℕ → ℕ → ℕ → ℕ → ℕ → ℕ → List ℕ → List Check
-limited_checks l len w h s f gray bits denoised work = limited l w h (stages_checks len w h s f gray bits denoised work)
-
--- the same, from the picture and the lent slices
-abbrev pub checks_under : Limit → List ℕ → ℕ → ℕ → ℕ → ℕ → List ℕ → List ℕ → List ℕ → List (List ℕ) → List Check
-checks_under l p w h s f gray bits denoised work = limited_checks l (length p) w h s f (length gray) (length bits) (length denoised) (map length work)
+-- what an entry with a limit checks before a byte is written: 1, the limit's, 2, 3, 4, 5
+abbrev pub limited_checks : Limit → Picture → Room → List Check
+limited_checks l p r = limited l p.width p.height (stages_checks p r)

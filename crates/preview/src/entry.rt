@@ -1,19 +1,20 @@
 // The preview for the unit's firmware, which is C: numbers and byte slices only, and the refusal's number for an answer. The crate chain_c exports it.
-ghost use Rattle.std.specs.Prelude.{◌≡◌, ◌∷◌, []};
+ghost use Rattle.std.specs.Prelude.{◌≡◌, ◌∷◌, [], length};
 ghost use Rattle.lcr_core.specs.Outcome.{number_of, first_of};
-ghost use Rattle.stages.specs.Pictures.{gray_after, bits_after, denoised_after, means_after, least_after, greatest_after, edges_after, nears_after};
-ghost use Rattle.stages.specs.Lent.{LeftAfter, HoldsSame};
-ghost use Rattle.preview.specs.Preview.{preview_entry, list_after};
-ghost use Rattle.preview.specs.Lent.{preview_entry_checks, preview_entry_with};
+ghost use Rattle.stages.specs.Pictures.{as_picture, gray_picture, bit_picture, denoised_picture};
+ghost use Rattle.stages.specs.Pictures.{block_means, block_least, block_greatest, edge_marks, near_marks, left_after};
+ghost use Rattle.stages.specs.Stages.{room_of};
+ghost use Rattle.stages.specs.Lent.{picture_in, room_in, LeftAfter, SameSlices};
+ghost use Rattle.preview.specs.Preview.{preview_entry_checks, preview_entry_answer, list_after};
 
 use blocks::Blocks;
-use image::gray::LentPixels;
+use gray::LentPixels;
 use lcr_core::{Refusal, number};
 use stages::Slices;
 
 // What is refused before a byte is written, with `room` bytes for the list.
 fn check_entry(pixels: LentPixels<'_>, slices: &Slices<'_, '_>, room: usize) -> Result<(), Refusal>
-    ensures { number_of result ≡ first_of (preview_entry_checks pixels.entry slices.now room) }
+    ensures { number_of result ≡ first_of (preview_entry_checks (picture_in pixels.entry) (room_in slices.now) room) }
 {
     crate::check_frame(pixels.width, pixels.height)?;
     stages::check_stages(pixels, slices)?;
@@ -29,10 +30,10 @@ fn put_preview(
     slices: &mut Slices<'_, '_>,
     list: &mut [u8],
 ) -> Result<(), Refusal>
-    ensures refusal { number_of result ≡ number_of (preview_entry_with pixels.entry slices.old list.old) }
-    ensures same { HoldsSame slices.old slices.new }
-    ensures left { LeftAfter (number_of result) pixels.entry slices.old slices.new }
-    ensures list { let p = pixels.entry in list.new ≡ list_after (number_of result) p.«data».now p.width p.height p.stride p.format list.old }
+    ensures refusal { number_of result ≡ number_of (preview_entry_answer (picture_in pixels.entry) (room_in slices.old) (length list.old)) }
+    ensures same { SameSlices slices.old slices.new }
+    ensures left { LeftAfter (number_of result) (picture_in pixels.entry) slices.old slices.new }
+    ensures list { list.new ≡ list_after (number_of result) (picture_in pixels.entry) list.old }
 {
     check_entry(pixels, slices, list.len())?;
     let found = crate::preview(pixels, slices)?;
@@ -58,17 +59,19 @@ pub fn plate_preview(
     nears: &mut [u8],
     list: &mut [u8],
 ) -> u8
-    ensures refusal { result ≡ number_of (preview_entry picture.now width height stride format gray.old bits.old denoised.old
-        (means.old ∷ least.old ∷ greatest.old ∷ edges.old ∷ nears.old ∷ []) list.old) }
-    ensures gray { gray.new ≡ gray_after result picture.now width height stride format gray.old }
-    ensures bits { bits.new ≡ bits_after result picture.now width height stride format bits.old }
-    ensures denoised { denoised.new ≡ denoised_after result picture.now width height stride format denoised.old }
-    ensures means { means.new ≡ means_after result picture.now width height stride format means.old }
-    ensures least { least.new ≡ least_after result picture.now width height stride format least.old }
-    ensures greatest { greatest.new ≡ greatest_after result picture.now width height stride format greatest.old }
-    ensures edges { edges.new ≡ edges_after result picture.now width height stride format edges.old }
-    ensures nears { nears.new ≡ nears_after result picture.now width height stride format nears.old }
-    ensures list { list.new ≡ list_after result picture.now width height stride format list.old }
+    ensures refusal { let p = as_picture picture.now width height stride format in
+        let r = room_of gray.old bits.old denoised.old (means.old ∷ least.old ∷ greatest.old ∷ edges.old ∷ nears.old ∷ []) in
+        result ≡ number_of (preview_entry_answer p r (length list.old)) }
+    ensures left { let p = as_picture picture.now width height stride format in
+        (gray.new ≡ left_after result (gray_picture p) gray.old)
+        × (bits.new ≡ left_after result (bit_picture p) bits.old)
+        × (denoised.new ≡ left_after result (denoised_picture p) denoised.old)
+        × (means.new ≡ left_after result (block_means p) means.old)
+        × (least.new ≡ left_after result (block_least p) least.old)
+        × (greatest.new ≡ left_after result (block_greatest p) greatest.old)
+        × (edges.new ≡ left_after result (edge_marks p) edges.old)
+        × (nears.new ≡ left_after result (near_marks p) nears.old)
+        × (list.new ≡ list_after result p list.old) }
 {
     let pixels = LentPixels {
         data: picture,

@@ -3,13 +3,13 @@
 
 ghost use Rattle.std.specs.Prelude.{◌≡◌, take};
 ghost use Rattle.lcr_core.specs.Outcome.{number_of, first_of, side_checks};
-ghost use Rattle.stages.specs.Lent.{LeftAfter, HoldsSame};
+ghost use Rattle.stages.specs.Lent.{picture_in, room_in, LeftAfter, SameSlices};
 ghost use Rattle.preview.specs.Limit.{preview_limit, over_limit, limited};
-ghost use Rattle.preview.specs.Lent.{preview_with};
+ghost use Rattle.preview.specs.Preview.{preview_answer};
 
 use binary::picture::LentBits;
 use finders::Finders;
-use image::gray::LentPixels;
+use gray::LentPixels;
 use lcr_core::{Refusal, zero_side};
 use stages::Slices;
 
@@ -44,9 +44,9 @@ fn check_frame(width: u32, height: u32) -> Result<(), Refusal>
 // Gray conversion, black and white conversion, denoising and the finders of the denoised bits. Refusals 1 to 5 and 10 come before a byte is written; after
 // 6, too many finders, the lent slices hold what they hold after 0.
 pub fn preview(pixels: LentPixels<'_>, slices: &mut Slices<'_, '_>) -> Result<Finders, Refusal>
-    ensures answer { result ≡ preview_with pixels.entry slices.old }
-    ensures same { HoldsSame slices.old slices.new }
-    ensures left { LeftAfter (number_of result) pixels.entry slices.old slices.new }
+    ensures answer { result ≡ preview_answer (picture_in pixels.entry) (room_in slices.old) }
+    ensures same { SameSlices slices.old slices.new }
+    ensures left { LeftAfter (number_of result) (picture_in pixels.entry) slices.old slices.new }
 {
     check_frame(pixels.width, pixels.height)?;
     stages::stages(pixels, slices)?;

@@ -1,2 +1,3 @@
 pub mod Ranking
+pub mod Tables
 pub mod Insertion

@@ -15,7 +15,7 @@ use lib.Ieee.Positive.{num, den, positive, den_pos, own_value, positive_of_value
 use borrow.Author.Tests.{lt-ltb, le-ltb, lt-leb, le-leb}
 use Rattle.lists.specs.Lists.{dist}
 use Rattle.float.specs.Floats.{abs_of}
-use Rattle.float.specs.Steps.{minus32, times32, whole32}
+use Rattle.float.specs.Steps.{◌⊖◌, ◌⊗◌, whole32}
 use Rattle.float.specs.Constants.{f0_55, f3, f4}
 use Rattle.ratio.specs.Ratio.{near_one, near_three, outer_of, tolerance_of, beyond}
 use Rattle.float.proofs.Exactly.{rescale, small_exact, of_int_value, mul_is, div_is, abs_sub_is, lt_is}
@@ -90,7 +90,7 @@ module _ (s : ℕ) (P : 0 < s) (S : s ≤ 32768) where
       (ap (λ (n : ℕ). round binary32 false n 4) (sym (mul-one s)) ∙ sym (div_is binary32 (whole32 s) f4 false false s 1 4 1 (lit< tt) (lit< tt) (lit< tt) (of_int_value binary32 s (le_trans S (lit≤ tt))) four))
       (small_exact false s 2 (lt_of_le_of_lt S (lit< tt)) (lit≤ tt))
 
-  outer3_is : HasValue (times32 f3 outer) false (3 * s) 4
+  outer3_is : HasValue (f3 ⊗ outer) false (3 * s) 4
   outer3_is =
       subst (λ (x : Float). HasValue x false (3 * s) 4) (sym (mul_is binary32 f3 outer false false 3 1 s 4 (lit< tt) (lit< tt) three outer_is))
       (small_exact false (3 * s) 2 (few s S) (lit≤ tt))
@@ -103,7 +103,7 @@ module _ (s : ℕ) (P : 0 < s) (S : s ≤ 32768) where
       subst (λ (t : Float). Between t (704 * s / 5) (704 * s / 5 + 1)) (sym (mul_is binary32 outer f0_55 false false s 4 9227469 16777216 (lit< tt) (lit< tt) outer_is hundredths))
       (rounded (s * 9227469) 67108864 (704 * s / 5) (704 * s / 5 + 1) (lit< tt) (omega arith) (omega arith) (omega arith) (omega arith) (omega arith) (omega arith))
 
-  tol3_is : Between (times32 f3 tol) (3 * (704 * s / 5)) (3 * (704 * s / 5 + 1))
+  tol3_is : Between (f3 ⊗ tol) (3 * (704 * s / 5)) (3 * (704 * s / 5 + 1))
   tol3_is =
       let b = tol_is in
       let n = num tol in
@@ -122,7 +122,7 @@ module _ (s : ℕ) (P : 0 < s) (S : s ≤ 32768) where
 
   module _ (r : ℕ) (R : r ≤ 32768) where
     abbrev gap : Float → Float
-    gap x = abs_of (minus32 (whole32 r) x)
+    gap x = abs_of (whole32 r ⊖ x)
 
     -- the distance of r from q / 4
     gap_is : (x : Float) (q : ℕ) → q ≤ 98304 → HasValue x false q 4 → HasValue (gap x) false (dist (4 * r) q) 4
@@ -156,24 +156,24 @@ module _ (s : ℕ) (P : 0 < s) (S : s ≤ 32768) where
             less : (s D : ℕ) → 20 * D ≤ 11 * s → 256 * D ≤ 704 * s / 5
             less s D h = omega arith
 
-    pub three_test : not (beyond r (times32 f3 outer) (times32 f3 tol)) ≡ near_three s r
+    pub three_test : not (beyond r (f3 ⊗ outer) (f3 ⊗ tol)) ≡ near_three s r
     three_test = ap not (go (ltb (33 * s) (20 * D)) (ltb→lt (33 * s) (20 * D)) (nltb→le (33 * s) (20 * D))) ∙ not_ltb (33 * s) (20 * D)
       where
         D : ℕ
         D = dist (4 * r) (3 * s)
 
-        v : HasValue (gap (times32 f3 outer)) false D 4
-        v = gap_is (times32 f3 outer) (3 * s) (wide s S) outer3_is
+        v : HasValue (gap (f3 ⊗ outer)) false D 4
+        v = gap_is (f3 ⊗ outer) (3 * s) (wide s S) outer3_is
           where
             wide : (s : ℕ) → s ≤ 32768 → 3 * s ≤ 98304
             wide s S = omega arith
 
-        go : (t : Bool) → (T t → 33 * s < 20 * D) → (T (not t) → 20 * D ≤ 33 * s) → lt (times32 f3 tol) (gap (times32 f3 outer)) ≡ t
-        go true l g = far (times32 f3 tol) (gap (times32 f3 outer)) (3 * (704 * s / 5)) (3 * (704 * s / 5 + 1)) D tol3_is v (more s D (l tt))
+        go : (t : Bool) → (T t → 33 * s < 20 * D) → (T (not t) → 20 * D ≤ 33 * s) → lt (f3 ⊗ tol) (gap (f3 ⊗ outer)) ≡ t
+        go true l g = far (f3 ⊗ tol) (gap (f3 ⊗ outer)) (3 * (704 * s / 5)) (3 * (704 * s / 5 + 1)) D tol3_is v (more s D (l tt))
           where
             more : (s D : ℕ) → 33 * s < 20 * D → 3 * (704 * s / 5 + 1) < 256 * D
             more s D h = omega arith
-        go false l g = near (times32 f3 tol) (gap (times32 f3 outer)) (3 * (704 * s / 5)) (3 * (704 * s / 5 + 1)) D tol3_is v (less s D (g tt))
+        go false l g = near (f3 ⊗ tol) (gap (f3 ⊗ outer)) (3 * (704 * s / 5)) (3 * (704 * s / 5 + 1)) D tol3_is v (less s D (g tt))
           where
             -- at equality s is a multiple of 20, and 704 * s / 5 is exact
             less : (s x : ℕ) → 20 * x ≤ 33 * s → 256 * x ≤ 3 * (704 * s / 5)

@@ -1,7 +1,7 @@
 // Records 1 to 8: versions and colours.
 use lcr_core::color::Srgb8;
 use lcr_core::version::Version;
-use record::values;
+use replay_records::values;
 
 // The refusal's number, 0 where there is none, and what is asked of a version.
 fn version(function: u8, p: &[u8], out: &mut [u8]) -> usize {

@@ -1,7 +1,7 @@
 // Records 32 to 34, 36 and 37: the finder search, the stored list, the five-run test and how a run ended.
 use binary::line::{End, Line, Run};
 use binary::picture::LentBits;
-use record::{slices, values};
+use replay_records::{slices, values};
 
 fn find_finders(p: &[u8], out: &mut [u8]) -> usize {
     let answer = finders::find_finders(LentBits {

@@ -1,12 +1,13 @@
 // Records 48 to 59: linear equations, transforms, and what three finders tell.
 ghost use Rattle.std.specs.Prelude.{◌≡◌, ◌*◌, ◌≤◌};
 ghost use Rattle.lists.specs.Lists.{tabulate};
-ghost use Rattle.record.specs.Record.{doubles_at};
+ghost use Rattle.replay_records.specs.Record.{doubles_at};
 
 use crate::core_calls::put_version;
+use lcr_core::point::Point;
 use lcr_core::version::Version;
-use record::values;
-use transform::{Point, Quad, Transform, Triangle};
+use replay_records::values;
+use transform::{Quad, Transform, Triangle};
 
 // N rows of N numbers.
 fn rows_at<const N: usize>(p: &[u8]) -> [[f64; N]; N]

@@ -8,7 +8,7 @@ mod geometry_calls;
 // The calls that this program answers.
 struct Calls;
 
-impl record::Answers for Calls {
+impl replay_records::Answers for Calls {
     fn answer(function: u8, p: &[u8], out: &mut [u8]) -> usize {
         if function < 32 {
             return core_calls::answer(function, p, out);
@@ -21,5 +21,5 @@ impl record::Answers for Calls {
 }
 
 fn main() {
-    record::run::<Calls>();
+    replay_records::run::<Calls>();
 }

@@ -1,9 +1,9 @@
 // Records 64 to 67: the alignment marker.
 use crate::picture_at;
+use lcr_core::point::Point;
 use lcr_core::version::Version;
 use lcr_core::{Refusal, number};
-use record::values;
-use transform::Point;
+use replay_records::values;
 
 // A flag, and where the marker is.
 fn put_marker(out: &mut [u8], at: u8, m: Option<Point>) {
@@ -21,7 +21,7 @@ fn put_located(out: &mut [u8], r: Result<Option<Point>, Refusal>) -> usize {
 }
 
 fn find_alignment(p: &[u8], out: &mut [u8]) -> usize {
-    let r = rows::find_alignment(
+    let r = row_search::find_alignment(
         picture_at(p, 20),
         values::point_at(p, 8),
         values::float_at(p, 16),

@@ -5,9 +5,9 @@ ghost use Rattle.candidates.specs.Candidates.{from_answer};
 use crate::picture_at;
 use binary::picture::LentBits;
 use candidates::{Detection, Detections};
-use geometry::Finder;
+use lcr_core::finder::Finder;
 use lcr_core::{Refusal, number};
-use record::values;
+use replay_records::values;
 
 // The most finders that are lent.
 const LENT: usize = 1200;
@@ -24,7 +24,7 @@ fn lend(bits: LentBits<'_>, list: [Finder; LENT], n: usize) -> Result<Detections
 fn list_at(p: &[u8]) -> [Finder; LENT] {
     let mut list = [Finder::zero(); LENT];
     for (i, f) in list.iter_mut().enumerate() {
-        *f = values::finder_at(p, 12 + 16 * i as u16);
+        *f = values::read_finder(p, 12 + 16 * i as u16);
     }
     list
 }
@@ -32,7 +32,7 @@ fn list_at(p: &[u8]) -> [Finder; LENT] {
 // An answer's bytes: after a refusal its number and the empty table.
 fn put_answer(out: &mut [u8], answer: Result<Detections, Refusal>) -> usize {
     let found = answer.unwrap_or(candidates::no_detections());
-    values::put_detections(out, number(answer), found)
+    values::put_graded(out, number(answer), found)
 }
 
 fn candidates_from(p: &[u8], out: &mut [u8]) -> usize {

@@ -2,7 +2,7 @@
 #![tactic(auto)]
 
 use binary::picture::LentBits;
-use record::slices;
+use replay_records::slices;
 
 mod alignment_calls;
 mod candidate_calls;
@@ -19,7 +19,7 @@ fn picture_at(p: &[u8], at: usize) -> LentBits<'_> {
 // The calls that this program answers.
 struct Calls;
 
-impl record::Answers for Calls {
+impl replay_records::Answers for Calls {
     fn answer(function: u8, p: &[u8], out: &mut [u8]) -> usize {
         if function < 80 {
             return alignment_calls::answer(function, p, out);
@@ -29,5 +29,5 @@ impl record::Answers for Calls {
 }
 
 fn main() {
-    record::run::<Calls>();
+    replay_records::run::<Calls>();
 }

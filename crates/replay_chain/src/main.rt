@@ -2,8 +2,8 @@
 #![tactic(auto)]
 
 use blocks::Blocks;
-use image::gray::LentPixels;
-use record::{slices, values};
+use gray::LentPixels;
+use replay_records::{slices, values};
 use stages::Slices;
 
 // A call that takes a picture and the eight slices: it puts what stands before the slices into the answer; the place after it.
@@ -17,7 +17,7 @@ impl Call for Chain {
     fn run(pixels: LentPixels<'_>, slices: &mut Slices<'_, '_>, out: &mut [u8]) -> usize {
         let answer = chain::chain(pixels, slices);
         let found = answer.unwrap_or(candidates::no_detections());
-        values::put_detections(out, lcr_core::number(answer), found)
+        values::put_graded(out, lcr_core::number(answer), found)
     }
 }
 
@@ -65,7 +65,7 @@ fn lend<C: Call>(p: &[u8], out: &mut [u8]) -> usize {
         blocks: &mut blocks,
     };
     let end = C::run(pixels, &mut lent, out);
-    let at = end.min(record::ANSWER) as u16;
+    let at = end.min(replay_records::ANSWER) as u16;
     slices::put_lent(out, at, &gray, p, 13);
     slices::put_lent(out, at + 12, &bits, p, 17);
     slices::put_lent(out, at + 24, &denoised, p, 21);
@@ -86,7 +86,7 @@ fn lend<C: Call>(p: &[u8], out: &mut [u8]) -> usize {
 // The calls that this program answers.
 struct Calls;
 
-impl record::Answers for Calls {
+impl replay_records::Answers for Calls {
     fn answer(function: u8, p: &[u8], out: &mut [u8]) -> usize {
         match function {
             96 => lend::<Chain>(p, out),
@@ -97,5 +97,5 @@ impl record::Answers for Calls {
 }
 
 fn main() {
-    record::run::<Calls>();
+    replay_records::run::<Calls>();
 }

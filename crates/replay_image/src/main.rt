@@ -4,8 +4,8 @@
 use binary::picture::LentBits;
 use blocks::Blocks;
 use blocks::picture::LentGray;
-use image::gray::LentPixels;
-use record::slices;
+use gray::LentPixels;
+use replay_records::slices;
 
 fn gray_buffer(p: &[u8], out: &mut [u8]) -> usize {
     if !slices::lendable(p, 13, 1) {
@@ -19,7 +19,7 @@ fn gray_buffer(p: &[u8], out: &mut [u8]) -> usize {
         stride: little_endian::get::<u32>(p, 8),
         format: little_endian::get::<u8>(p, 12),
     };
-    let r = image::gray::gray_buffer(pixels, slices::lent(&mut gray, p, 13));
+    let r = gray::gray_buffer(pixels, slices::lent(&mut gray, p, 13));
     little_endian::put::<u8>(out, 0, lcr_core::number(r));
     slices::put_lent(out, 1, &gray, p, 13);
     13
@@ -64,7 +64,7 @@ fn denoised(p: &[u8], out: &mut [u8]) -> usize {
         width: little_endian::get::<u32>(p, 0),
         height: little_endian::get::<u32>(p, 4),
     };
-    let r = image::denoise::denoised(lent, slices::lent(&mut bits, p, 8));
+    let r = denoise::denoised(lent, slices::lent(&mut bits, p, 8));
     little_endian::put::<u8>(out, 0, lcr_core::number(r));
     slices::put_lent(out, 1, &bits, p, 8);
     13
@@ -73,7 +73,7 @@ fn denoised(p: &[u8], out: &mut [u8]) -> usize {
 // The calls that this program answers.
 struct Calls;
 
-impl record::Answers for Calls {
+impl replay_records::Answers for Calls {
     fn answer(function: u8, p: &[u8], out: &mut [u8]) -> usize {
         match function {
             16 => gray_buffer(p, out),
@@ -85,5 +85,5 @@ impl record::Answers for Calls {
 }
 
 fn main() {
-    record::run::<Calls>();
+    replay_records::run::<Calls>();
 }

@@ -1,4 +1,5 @@
 -- The refusals of the stages one after the other are those of the whole, and what they leave where nothing is refused. Assumes nothing.
+use Rattle.std.proofs.lemmas.Bool.{or_parts}
 use mathlib.Core.Path.{◌≡◌, refl, sym, ap, ◌∙◌}
 use mathlib.Core.Bool.{Bool, true, false, cond, ◌||◌}
 use mathlib.Core.List.{List}
@@ -10,28 +11,45 @@ use borrow.Author.Tests.{ltb-false}
 use Rattle.lists.specs.Lists.{filled}
 use Rattle.lists.proofs.Tabulate.{length-filled}
 use Rattle.lcr_core.specs.Outcome.{zero_side, large_side}
-use Rattle.lcr_core.proofs.Checks.{or_false, first_passes, unless_done}
+use Rattle.lcr_core.proofs.Checks.{first_passes, if_refused_done}
 use Rattle.binary.specs.Binary.{byte_of, bytes_of}
 use Rattle.binary.specs.Refusal.{short_bits}
 use Rattle.blocks.specs.Blocks.{blocks_in, under}
-use Rattle.image.specs.Gray.{unknown_format, short_picture, gray_refusal, gray_at, gray_written}
-use Rattle.image.specs.Denoise.{denoised_refusal, denoised_at, denoised_written}
+use Rattle.gray.specs.Gray.{unknown_format, short_picture, gray_refusal, gray_at, gray_written}
+use Rattle.denoise.specs.Denoise.{denoised_refusal, denoised_at, denoised_written}
 use Rattle.binarize.specs.Binarize.{binarize_refusal}
-use Rattle.stages.specs.Stages.{short_room, stages_refusal}
+use Rattle.stages.specs.Stages.{Room, short_room, stages_refusal}
+use Rattle.stages.specs.Pictures.{Picture}
 
--- the checks with number 5 follow four others, or three
+-- the checks of gray conversion; those of all stages have the same with more behind number 5
 abbrev five : Bool → Bool → Bool → Bool → Bool → ℕ
 five z l u p r = cond z 1 (cond l 2 (cond u 3 (cond p 4 (cond r 5 0))))
 
-abbrev four : Bool → Bool → Bool → Bool → ℕ
-four z l p r = cond z 1 (cond l 2 (cond p 4 (cond r 5 0)))
+-- 5 where there is too little room
+abbrev short : Bool → ℕ
+short b = cond b 5 0
 
-module _ (len w h s f gray bits denoised : ℕ) (work : List ℕ) where
+module _ (p : Picture) (r : Room) where
+  abbrev w : ℕ
+  w = p.width
+
+  abbrev h : ℕ
+  h = p.height
+
+  abbrev gray_first : ℕ
+  gray_first = gray_refusal (length p.bytes) w h p.stride p.format r.gray
+
+  abbrev bits_then : ℕ
+  bits_then = binarize_refusal r.gray w h r.bits r.work
+
+  abbrev all : ℕ
+  all = stages_refusal p r
+
   -- what gray conversion refuses is refused with the same number
-  pub gray_refused : (gray_refusal len w h s f gray ≡ 0 → ⊥) → gray_refusal len w h s f gray ≡ stages_refusal len w h s f gray bits denoised work
+  pub gray_refused : (gray_first ≡ 0 → ⊥) → gray_first ≡ all
   unfolding gray_refusal stages_refusal short_room
   gray_refused =
-      go (zero_side w h) (large_side w h) (unknown_format f) (short_picture len w h s f) (ltb gray (w * h)) (ltb bits (bytes_of (w * h))) (ltb denoised (bytes_of (w * h))) (under (blocks_in w h) work)
+      go (zero_side w h) (large_side w h) (unknown_format p.format) (short_picture (length p.bytes) w h p.stride p.format) (ltb r.gray (w * h)) (ltb r.bits (bytes_of (w * h))) (ltb r.denoised (bytes_of (w * h))) (under (blocks_in w h) r.work)
     where
       go : (z l u p g b d k : Bool) → (five z l u p g ≡ 0 → ⊥) → five z l u p g ≡ five z l u p (g || b || d || k)
       go true l u p g b d k n = refl
@@ -41,80 +59,88 @@ module _ (len w h s f gray bits denoised : ℕ) (work : List ℕ) where
       go false false false false true b d k n = refl
       go false false false false false b d k n = absurd (n refl)
 
+  -- where it refuses nothing
+  gray_passes : gray_first ≡ 0
+      → (zero_side w h ≡ false) × (large_side w h ≡ false) × (unknown_format p.format ≡ false) × (short_picture (length p.bytes) w h p.stride p.format ≡ false) × (ltb r.gray (w * h) ≡ false)
+  unfolding gray_refusal
+  gray_passes e =
+      let p1 = first_passes (zero_side w h) 0 _ e in
+      let p2 = first_passes (large_side w h) 1 _ p1.1 in
+      let p3 = first_passes (unknown_format p.format) 2 _ p2.1 in
+      let p4 = first_passes (short_picture (length p.bytes) w h p.stride p.format) 3 _ p3.1 in
+      let p5 = first_passes (ltb r.gray (w * h)) 4 _ p4.1 in
+      (p1.0, p2.0, p3.0, p4.0, p5.0)
+
   -- then what black and white conversion refuses
-  pub bits_refused : gray_refusal len w h s f gray ≡ 0 → (binarize_refusal gray w h bits work ≡ 0 → ⊥)
-      → binarize_refusal gray w h bits work ≡ stages_refusal len w h s f gray bits denoised work
-  unfolding gray_refusal binarize_refusal stages_refusal short_room
-  bits_refused =
-      go (zero_side w h) (large_side w h) (unknown_format f) (short_picture len w h s f) (ltb gray (w * h)) (ltb bits (bytes_of (w * h))) (ltb denoised (bytes_of (w * h))) (under (blocks_in w h) work)
+  pub bits_refused : gray_first ≡ 0 → (bits_then ≡ 0 → ⊥) → bits_then ≡ all
+  unfolding binarize_refusal stages_refusal short_room
+  bits_refused e =
+      let q = gray_passes e in
+      rw (q.0, q.1, q.2, q.3, q.4) (go (ltb r.bits (bytes_of (w * h))) (ltb r.denoised (bytes_of (w * h))) (under (blocks_in w h) r.work))
     where
-      go : (z l u p g b d k : Bool) → five z l u p g ≡ 0 → (four z l g (b || k) ≡ 0 → ⊥) → four z l g (b || k) ≡ five z l u p (g || b || d || k)
-      go true l u p g b d k e n = absurd (omega arith)
-      go false true u p g b d k e n = absurd (omega arith)
-      go false false true p g b d k e n = absurd (omega arith)
-      go false false false true g b d k e n = absurd (omega arith)
-      go false false false false true b d k e n = absurd (omega arith)
-      go false false false false false true d k e n = refl
-      go false false false false false false true true e n = refl
-      go false false false false false false false true e n = refl
-      go false false false false false false d false e n = absurd (n refl)
+      go : (b d k : Bool) → (short (b || k) ≡ 0 → ⊥) → short (b || k) ≡ short (b || d || k)
+      go true d k n = refl
+      go false true true n = refl
+      go false false true n = refl
+      go false d false n = absurd (n refl)
 
   -- otherwise denoising decides
-  pub denoised_decides : gray_refusal len w h s f gray ≡ 0 → binarize_refusal gray w h bits work ≡ 0
-      → denoised_refusal bits w h denoised ≡ stages_refusal len w h s f gray bits denoised work
-  unfolding gray_refusal binarize_refusal denoised_refusal short_bits stages_refusal short_room
-  denoised_decides =
-      go (zero_side w h) (large_side w h) (unknown_format f) (short_picture len w h s f) (ltb gray (w * h)) (ltb bits (bytes_of (w * h))) (ltb denoised (bytes_of (w * h))) (under (blocks_in w h) work)
+  pub denoised_decides : gray_first ≡ 0 → bits_then ≡ 0 → denoised_refusal r.bits w h r.denoised ≡ all
+  unfolding binarize_refusal denoised_refusal short_bits stages_refusal short_room
+  denoised_decides e =
+      let q = gray_passes e in
+      rw (q.0, q.1, q.2, q.3, q.4) (go (ltb r.bits (bytes_of (w * h))) (ltb r.denoised (bytes_of (w * h))) (under (blocks_in w h) r.work))
     where
-      go : (z l u p g b d k : Bool) → five z l u p g ≡ 0 → four z l g (b || k) ≡ 0 → four z l b d ≡ five z l u p (g || b || d || k)
-      go true l u p g b d k e n = absurd (omega arith)
-      go false true u p g b d k e n = absurd (omega arith)
-      go false false true p g b d k e n = absurd (omega arith)
-      go false false false true g b d k e n = absurd (omega arith)
-      go false false false false true b d k e n = absurd (omega arith)
-      go false false false false false true d k e n = absurd (omega arith)
-      go false false false false false false d true e n = absurd (omega arith)
-      go false false false false false false true false e n = refl
-      go false false false false false false false false e n = refl
+      go : (b d k : Bool) → short (b || k) ≡ 0 → cond b 4 (short d) ≡ short (b || d || k)
+      go true d k n = absurd (omega arith)
+      go false d true n = absurd (omega arith)
+      go false true false n = refl
+      go false false false n = refl
 
   -- where nothing is refused, no stage refuses, and there is room
-  pub passes : stages_refusal len w h s f gray bits denoised work ≡ 0
-      → (gray_refusal len w h s f gray ≡ 0) × (binarize_refusal gray w h bits work ≡ 0) × (denoised_refusal bits w h denoised ≡ 0) × (w * h ≤ gray) × (bytes_of (w * h) ≤ bits)
+  pub passes : all ≡ 0 → (gray_first ≡ 0) × (bits_then ≡ 0) × (denoised_refusal r.bits w h r.denoised ≡ 0) × (w * h ≤ r.gray) × (bytes_of (w * h) ≤ r.bits)
   unfolding gray_refusal binarize_refusal denoised_refusal short_bits stages_refusal short_room
   passes e =
       let p1 = first_passes (zero_side w h) 0 _ e in
       let p2 = first_passes (large_side w h) 1 _ p1.1 in
-      let p3 = first_passes (unknown_format f) 2 _ p2.1 in
-      let p4 = first_passes (short_picture len w h s f) 3 _ p3.1 in
-      let p5 = first_passes (short_room w h gray bits denoised work) 4 _ p4.1 in
-      let q1 = or_false (ltb gray (w * h) || ltb bits (bytes_of (w * h)) || ltb denoised (bytes_of (w * h))) (under (blocks_in w h) work) p5.0 in
-      let q2 = or_false (ltb gray (w * h) || ltb bits (bytes_of (w * h))) (ltb denoised (bytes_of (w * h))) q1.0 in
-      let q3 = or_false (ltb gray (w * h)) (ltb bits (bytes_of (w * h))) q2.0 in (
+      let p3 = first_passes (unknown_format p.format) 2 _ p2.1 in
+      let p4 = first_passes (short_picture (length p.bytes) w h p.stride p.format) 3 _ p3.1 in
+      let p5 = first_passes (short_room w h r) 4 _ p4.1 in
+      let q1 = or_parts (ltb r.gray (w * h) || ltb r.bits (bytes_of (w * h)) || ltb r.denoised (bytes_of (w * h))) (under (blocks_in w h) r.work) p5.0 in
+      let q2 = or_parts (ltb r.gray (w * h) || ltb r.bits (bytes_of (w * h))) (ltb r.denoised (bytes_of (w * h))) q1.0 in
+      let q3 = or_parts (ltb r.gray (w * h)) (ltb r.bits (bytes_of (w * h))) q2.0 in (
         simp (p1.0, p2.0, p3.0, p4.0, q3.0),
         simp (p1.0, p2.0, q3.0, q3.1, q1.1),
         simp (p1.0, p2.0, q3.1, q2.1),
-        ltb-false gray (w * h) q3.0,
-        ltb-false bits (bytes_of (w * h)) q3.1,
+        ltb-false r.gray (w * h) q3.0,
+        ltb-false r.bits (bytes_of (w * h)) q3.1,
       )
 
 -- what the stages leave where nothing is refused
-module _ (p gray bits denoised : List ℕ) (w h s f : ℕ) (work : List ℕ) (zero : stages_refusal (length p) w h s f (length gray) (length bits) (length denoised) work ≡ 0) where
-  -- the gray picture is written, and black and white conversion does not refuse it
-  pub gray_done : (new : List ℕ) → new ≡ gray_written p w h s f gray
-      → (new ≡ filled (w * h) (gray_at p w s f) gray) × (binarize_refusal (length new) w h (length bits) work ≡ 0)
-  unfolding gray_written
-  gray_done new e =
-      let t = passes (length p) w h s f (length gray) (length bits) (length denoised) work zero in
-      let k = e ∙ sym (unless_done _ _ _ t.0) in
-      let l : length new ≡ length gray = ap length k ∙ length-filled (w * h) (gray_at p w s f) gray t.3 in
-      (k, rw l t.1)
+module _ (p : Picture) (gray bits denoised : List ℕ) (work : List ℕ) where
+  abbrev room : Room
+  room = record { gray = length gray; bits = length bits; denoised = length denoised; work = work }
 
-  -- the bits are written, and denoised
-  pub denoised_done : (new out : List ℕ) (b : ℕ → ℕ) → new ≡ filled (bytes_of (w * h)) b bits → out ≡ denoised_written new w h denoised
-      → out ≡ filled (bytes_of (w * h)) (byte_of (denoised_at new w h)) denoised
-  unfolding denoised_written
-  denoised_done new out b k e =
-      let t = passes (length p) w h s f (length gray) (length bits) (length denoised) work zero in
-      let l : length new ≡ length bits = ap length k ∙ length-filled (bytes_of (w * h)) b bits t.4 in
-      let z : denoised_refusal (length new) w h (length denoised) ≡ 0 = rw l t.2 in
-      e ∙ sym (unless_done _ _ _ z)
+  abbrev n : ℕ
+  n = p.width * p.height
+
+  module _ (zero : stages_refusal p room ≡ 0) where
+    -- the gray picture is written, and black and white conversion does not refuse it
+    pub gray_done : (new : List ℕ) → new ≡ gray_written p.bytes p.width p.height p.stride p.format gray
+        → (new ≡ filled n (gray_at p.bytes p.width p.stride p.format) gray) × (binarize_refusal (length new) p.width p.height (length bits) work ≡ 0)
+    unfolding gray_written
+    gray_done new e =
+        let t = passes p room zero in
+        let k = e ∙ sym (if_refused_done _ _ _ t.0) in
+        let l : length new ≡ length gray = ap length k ∙ length-filled n (gray_at p.bytes p.width p.stride p.format) gray t.3 in
+        (k, rw l t.1)
+
+    -- the bits are written, and denoised
+    pub denoised_done : (new out : List ℕ) (b : ℕ → ℕ) → new ≡ filled (bytes_of n) b bits → out ≡ denoised_written new p.width p.height denoised
+        → out ≡ filled (bytes_of n) (byte_of (denoised_at new p.width p.height)) denoised
+    unfolding denoised_written
+    denoised_done new out b k e =
+        let t = passes p room zero in
+        let l : length new ≡ length bits = ap length k ∙ length-filled (bytes_of n) b bits t.4 in
+        let z : denoised_refusal (length new) p.width p.height (length denoised) ≡ 0 = rw l t.2 in
+        e ∙ sym (if_refused_done _ _ _ z)

@@ -8,14 +8,14 @@ use lib.Dec.{ltb}
 use lib.ListN.{take}
 use lib.Seq.{get_or-take}
 use borrow.Author.Tests.{ltb-true}
-use Rattle.lists.specs.Lists.{sum_to}
+use Rattle.lists.specs.Lists.{sum_to, at, mean, least, greatest}
 use Rattle.lists.proofs.Filters.{each_map}
 use Rattle.lists.proofs.Folds.{map_same}
 use Rattle.lists.proofs.Numbers.{row_within}
 use Rattle.binary.specs.Binary.{bit, dark_bit, dark_at, bytes_of, byte_of}
 use Rattle.binary.proofs.Words.{word_same}
-use Rattle.image.specs.Denoise.{votes, denoised_at}
-use Rattle.blocks.specs.Blocks.{at, cells, pixels_of, blocks_on, mean, least, greatest, mark, near_of, block_at, mean_at, least_at, greatest_at, edge_at, near_at}
+use Rattle.denoise.specs.Denoise.{votes, denoised_at}
+use Rattle.blocks.specs.Blocks.{cells, block_pixels, blocks_on, mark, near_mark, block_at, mean_at, least_at, greatest_at, edge_at, near_at}
 use Rattle.blocks.proofs.Grids.{cells-within}
 use Rattle.binarize.specs.Binarize.{dark_by, is_dark}
 
@@ -26,8 +26,8 @@ module _ (g : List ℕ) (w h : ℕ) where
   block_tail i =
       let x = i % blocks_on w * 8 in
       let y = i / blocks_on w * 8 in
-      map_same (at (take (w * h) g)) (at g) (cells w (pixels_of w (i % blocks_on w)) (pixels_of h (i / blocks_on w)))
-      (each_map (λ k. k < h * w) (λ k. at (take (w * h) g) k ≡ at g k) (λ k l. get_or-take (w * h) g k 0 (omega arith)) (cells w (pixels_of w (i % blocks_on w)) (pixels_of h (i / blocks_on w)))
+      map_same (at (take (w * h) g)) (at g) (cells w (block_pixels w (i % blocks_on w)) (block_pixels h (i / blocks_on w)))
+      (each_map (λ k. k < h * w) (λ k. at (take (w * h) g) k ≡ at g k) (λ k l. get_or-take (w * h) g k 0 (omega arith)) (cells w (block_pixels w (i % blocks_on w)) (block_pixels h (i / blocks_on w)))
       (cells-within w h x (min w (x + 8)) y (min h (y + 8)) (omega arith) (omega arith)))
 
   blocks_tail : block_at (take (w * h) g) w h ≡ block_at g w h
@@ -46,7 +46,7 @@ module _ (g : List ℕ) (w h : ℕ) where
   edge_tail = fun_ext (λ i. ap (λ (l : List ℕ). mark (least l) (greatest l)) (block_tail i))
 
   pub near_tail : near_at (take (w * h) g) w h ≡ near_at g w h
-  near_tail = ap (λ (b : ℕ → List ℕ). near_of (λ i. least (b i)) (λ i. greatest (b i)) (blocks_on w) (blocks_on h)) blocks_tail
+  near_tail = ap (λ (b : ℕ → List ℕ). near_mark (λ i. least (b i)) (λ i. greatest (b i)) (blocks_on w) (blocks_on h)) blocks_tail
 
   value_tail : (m e n : ℕ → ℕ) (k : ℕ) → dark_by m e n (take (w * h) g) w h k ≡ dark_by m e n g w h k
   unfolding dark_by
@@ -58,7 +58,7 @@ module _ (g : List ℕ) (w h : ℕ) where
 
   pub dark_tail : is_dark (take (w * h) g) w h ≡ is_dark g w h
   dark_tail =
-      ap (λ (b : ℕ → List ℕ). dark_by (λ i. mean (b i)) (λ i. mark (least (b i)) (greatest (b i))) (near_of (λ i. least (b i)) (λ i. greatest (b i)) (blocks_on w) (blocks_on h)) (take (w * h) g) w h) blocks_tail
+      ap (λ (b : ℕ → List ℕ). dark_by (λ i. mean (b i)) (λ i. mark (least (b i)) (greatest (b i))) (near_mark (λ i. least (b i)) (λ i. greatest (b i)) (blocks_on w) (blocks_on h)) (take (w * h) g) w h) blocks_tail
       ∙ fun_ext (value_tail (mean_at g w h) (edge_at g w h) (near_at g w h))
 
 -- ---- the bit picture

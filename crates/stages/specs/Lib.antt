@@ -1,3 +1,3 @@
-pub mod Stages
 pub mod Pictures
+pub mod Stages
 pub mod Lent

@@ -1,19 +1,35 @@
--- What the stages make of a picture p of w × h pixels in rows of s bytes with format byte f, and of nothing else: each list is exactly as long as what
--- it holds. Document 01, "From picture to bits". Definitions only.
+-- To be believed. What the stages make of a picture, and of nothing else: each list is exactly as long as what it holds. Document 01, "From picture to bits".
 use Rattle.std.specs.Prelude.{ℕ, ◌*◌, cond, ◌||◌, List, eqb}
 use Rattle.lists.specs.Lists.{tabulate, written}
 use Rattle.lcr_core.specs.Outcome.{refusal_number}
 use Rattle.lcr_core.specs.declared.Refusal.TheVariants.{FullTable}
 use Rattle.binary.specs.Binary.{byte_of, bytes_of}
-use Rattle.image.specs.Gray.{gray_at}
-use Rattle.image.specs.Denoise.{denoised_at}
+use Rattle.gray.specs.Gray.{gray_at}
+use Rattle.denoise.specs.Denoise.{denoised_at}
 use Rattle.blocks.specs.Blocks.{blocks_in, mean_at, least_at, greatest_at, edge_at, near_at}
 use Rattle.binarize.specs.Binarize.{is_dark}
 
-module _ (p : List ℕ) (w h s f : ℕ) where
+-- a picture: its bytes, its sides in pixels, how many bytes a row takes, and its format byte
+pub record Picture : Type 0 where
+  pub bytes : List ℕ
+  pub width : ℕ
+  pub height : ℕ
+  pub stride : ℕ
+  pub format : ℕ
+
+abbrev pub as_picture : List ℕ → ℕ → ℕ → ℕ → ℕ → Picture
+as_picture p w h s f = record { bytes = p; width = w; height = h; stride = s; format = f }
+
+module _ (p : Picture) where
+  abbrev w : ℕ
+  w = p.width
+
+  abbrev h : ℕ
+  h = p.height
+
   -- a gray value for each pixel
   unfoldable pub gray_picture : List ℕ
-  gray_picture = tabulate (w * h) (gray_at p w s f)
+  gray_picture = tabulate (w * h) (gray_at p.bytes w p.stride p.format)
 
   -- a bit for each pixel, in (width × height + 7) / 8 bytes
   unfoldable pub bit_picture : List ℕ
@@ -39,34 +55,7 @@ module _ (p : List ℕ) (w h s f : ℕ) where
   unfoldable pub near_marks : List ℕ
   near_marks = tabulate (blocks_in w h) (near_at gray_picture w h)
 
--- ---- what a call that answers n leaves of the slices lent to the stages
-
--- after 0, and after 6, which is given behind the stages, a list is written; else all is as it was
+-- what a call that answers n leaves of a slice lent to the stages: after 0, and after 6, which is given behind the stages, the list that they make is
+-- written over its front; else all is as it was
 unfoldable pub left_after : ℕ → List ℕ → List ℕ → List ℕ
-left_after n new old = cond (eqb n 0 || eqb n (refusal_number FullTable)) (written new old) old
-
--- each slice, where p is the picture and n the number answered
-module _ (n : ℕ) (p : List ℕ) (w h s f : ℕ) where
-  abbrev pub gray_after : List ℕ → List ℕ
-  gray_after = left_after n (gray_picture p w h s f)
-
-  abbrev pub bits_after : List ℕ → List ℕ
-  bits_after = left_after n (bit_picture p w h s f)
-
-  abbrev pub denoised_after : List ℕ → List ℕ
-  denoised_after = left_after n (denoised_picture p w h s f)
-
-  abbrev pub means_after : List ℕ → List ℕ
-  means_after = left_after n (block_means p w h s f)
-
-  abbrev pub least_after : List ℕ → List ℕ
-  least_after = left_after n (block_least p w h s f)
-
-  abbrev pub greatest_after : List ℕ → List ℕ
-  greatest_after = left_after n (block_greatest p w h s f)
-
-  abbrev pub edges_after : List ℕ → List ℕ
-  edges_after = left_after n (edge_marks p w h s f)
-
-  abbrev pub nears_after : List ℕ → List ℕ
-  nears_after = left_after n (near_marks p w h s f)
+left_after n made old = cond (eqb n 0 || eqb n (refusal_number FullTable)) (written made old) old

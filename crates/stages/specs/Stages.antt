@@ -1,31 +1,37 @@
--- All picture stages in one call, the first part of the whole chain. Document 01: "Whole chain (added: gray, `binarize`, `denoised`, `detect_candidates`):
--- 1, 2, 3, 4, 5, 6"; here are its 1 to 5. Definitions only.
-use Rattle.std.specs.Prelude.{ℕ, ◌*◌, Bool, ◌||◌, List, [], ◌∷◌, map, ltb, length}
-use Rattle.lcr_core.specs.Outcome.{Check, first_of, zero_side, large_side}
-use Rattle.lcr_core.specs.declared.Refusal.TheVariants.{ZeroSide, LargeSide, UnknownFormat, ShortPicture, ShortOutput}
+-- To be believed. All picture stages in one call, the first part of the whole chain. Document 01: "Whole chain (added: gray, `binarize`, `denoised`,
+-- `detect_candidates`): 1, 2, 3, 4, 5, 6"; here are its 1 to 5.
+use Rattle.std.specs.Prelude.{ℕ, ◌*◌, Bool, ◌||◌, List, [], ◌∷◌, map, ltb, length, ◌++◌}
+use Rattle.lcr_core.specs.Outcome.{Check, first_of, side_checks}
+use Rattle.lcr_core.specs.declared.Refusal.TheVariants.{UnknownFormat, ShortPicture, ShortOutput}
 use Rattle.binary.specs.Binary.{bytes_of}
 use Rattle.blocks.specs.Blocks.{blocks_in, under}
-use Rattle.image.specs.Gray.{unknown_format, short_picture}
+use Rattle.gray.specs.Gray.{unknown_format, short_picture}
+use Rattle.stages.specs.Pictures.{Picture}
+
+-- how many bytes each of the slices has that the stages write: gray values, bits, denoised bits, and the five work slices
+pub record Room : Type 0 where
+  pub gray : ℕ
+  pub bits : ℕ
+  pub denoised : ℕ
+  pub work : List ℕ
+
+-- that of slices which hold these
+abbrev pub room_of : List ℕ → List ℕ → List ℕ → List (List ℕ) → Room
+room_of gray bits denoised work = record { gray = length gray; bits = length bits; denoised = length denoised; work = map length work }
 
 -- 5: gray is under width × height bytes, bits or denoised under (width × height + 7) / 8, rounded down, or a work slice under one byte per block
-unfoldable pub short_room : ℕ → ℕ → ℕ → ℕ → ℕ → List ℕ → Bool
-short_room w h gray bits denoised work =
-    ltb gray (w * h) || ltb bits (bytes_of (w * h)) || ltb denoised (bytes_of (w * h)) || under (blocks_in w h) work
+unfoldable pub short_room : ℕ → ℕ → Room → Bool
+short_room w h r = ltb r.gray (w * h) || ltb r.bits (bytes_of (w * h)) || ltb r.denoised (bytes_of (w * h)) || under (blocks_in w h) r.work
 
--- what is refused of len picture bytes in rows of s bytes with format byte f, and lent slices of these lengths
-abbrev pub stages_checks : ℕ → ℕ → ℕ → ℕ → ℕ → ℕ → ℕ → ℕ → List ℕ → List Check
-stages_checks len w h s f gray bits denoised work =
-    record { refuses = zero_side w h; refusal = ZeroSide }
-    ∷ record { refuses = large_side w h; refusal = LargeSide }
-    ∷ record { refuses = unknown_format f; refusal = UnknownFormat }
-    ∷ record { refuses = short_picture len w h s f; refusal = ShortPicture }
-    ∷ record { refuses = short_room w h gray bits denoised work; refusal = ShortOutput }
-    ∷ []
+-- what is refused of a picture, with so much room: 1, 2, 3, 4, 5, in this order
+abbrev pub stages_checks : Picture → Room → List Check
+stages_checks p r =
+    side_checks p.width p.height
+    ++ (record { refuses = unknown_format p.format; refusal = UnknownFormat }
+    ∷ record { refuses = short_picture (length p.bytes) p.width p.height p.stride p.format; refusal = ShortPicture }
+    ∷ record { refuses = short_room p.width p.height r; refusal = ShortOutput }
+    ∷ [])
 
 -- the number of the first that refuses
-unfoldable pub stages_refusal : ℕ → ℕ → ℕ → ℕ → ℕ → ℕ → ℕ → ℕ → List ℕ → ℕ
-stages_refusal len w h s f gray bits denoised work = first_of (stages_checks len w h s f gray bits denoised work)
-
--- the same, from the picture and the lent slices
-abbrev pub refusal_of : List ℕ → ℕ → ℕ → ℕ → ℕ → List ℕ → List ℕ → List ℕ → List (List ℕ) → ℕ
-refusal_of p w h s f gray bits denoised work = stages_refusal (length p) w h s f (length gray) (length bits) (length denoised) (map length work)
+unfoldable pub stages_refusal : Picture → Room → ℕ
+stages_refusal p r = first_of (stages_checks p r)

@@ -3,16 +3,17 @@
 
 ghost use Rattle.std.specs.Prelude.{◌≡◌};
 ghost use Rattle.lcr_core.specs.Outcome.{number_of};
-ghost use Rattle.stages.specs.Lent.{refusal_with, LeftAfter, HoldsSame};
+ghost use Rattle.stages.specs.Stages.{stages_refusal};
+ghost use Rattle.stages.specs.Lent.{picture_in, room_in, LeftAfter, SameSlices};
 
 use binary::picture::LentBits;
 use blocks::Blocks;
 use blocks::picture::LentGray;
-use image::gray::LentPixels;
+use gray::LentPixels;
 use lcr_core::Refusal;
 
-// The slices that the stages write: gray values, their bits, the denoised bits and the values of the blocks. The last stand behind a `&mut`, since held by
-// value they get no proof (tried).
+// The slices that the stages write: gray values, their bits, the denoised bits and the values of the blocks. The blocks' stand behind a
+// `&mut`: held by value they got no proof.
 #[derive(Drop)]
 pub struct Slices<'a, 'b> {
     pub gray: &'a mut [u8],
@@ -23,9 +24,9 @@ pub struct Slices<'a, 'b> {
 
 // What `stages` refuses.
 pub fn check_stages(pixels: LentPixels<'_>, slices: &Slices<'_, '_>) -> Result<(), Refusal>
-    ensures { number_of result ≡ refusal_with pixels.entry slices.now }
+    ensures { number_of result ≡ stages_refusal (picture_in pixels.entry) (room_in slices.now) }
 {
-    image::gray::check_gray(pixels, slices.gray.len())?;
+    gray::check_gray(pixels, slices.gray.len())?;
     let gray = LentGray {
         gray: slices.gray,
         width: pixels.width,
@@ -37,18 +38,18 @@ pub fn check_stages(pixels: LentPixels<'_>, slices: &Slices<'_, '_>) -> Result<(
         width: pixels.width,
         height: pixels.height,
     };
-    image::denoise::check_denoised(bits, slices.denoised.len())
+    denoise::check_denoised(bits, slices.denoised.len())
 }
 
 // The stages of a picture that passed the checks, so that none of them refuses it.
 fn run_checked(pixels: LentPixels<'_>, slices: &mut Slices<'_, '_>)
-    requires { refusal_with pixels slices.old ≡ 0 }
-    ensures same { HoldsSame slices.old slices.new }
-    ensures left { LeftAfter 0 pixels.entry slices.old slices.new }
+    requires { stages_refusal (picture_in pixels) (room_in slices.old) ≡ 0 }
+    ensures same { SameSlices slices.old slices.new }
+    ensures left { LeftAfter 0 (picture_in pixels.entry) slices.old slices.new }
 {
     let gray = &mut *slices.gray;
     let bits = &mut *slices.bits;
-    let _ = image::gray::gray_buffer(pixels, gray);
+    let _ = gray::gray_buffer(pixels, gray);
     let lent_gray = LentGray {
         gray,
         width: pixels.width,
@@ -60,15 +61,15 @@ fn run_checked(pixels: LentPixels<'_>, slices: &mut Slices<'_, '_>)
         width: pixels.width,
         height: pixels.height,
     };
-    let _ = image::denoise::denoised(lent_bits, slices.denoised);
+    let _ = denoise::denoised(lent_bits, slices.denoised);
 }
 
 // Gray conversion of a picture, black and white conversion of the gray picture and denoising of its bits, with a byte for each block in each of the five
 // work slices; or refuses and writes nothing.
 pub fn stages(pixels: LentPixels<'_>, slices: &mut Slices<'_, '_>) -> Result<(), Refusal>
-    ensures refusal { number_of result ≡ refusal_with pixels.entry slices.old }
-    ensures same { HoldsSame slices.old slices.new }
-    ensures left { LeftAfter (number_of result) pixels.entry slices.old slices.new }
+    ensures refusal { number_of result ≡ stages_refusal (picture_in pixels.entry) (room_in slices.old) }
+    ensures same { SameSlices slices.old slices.new }
+    ensures left { LeftAfter (number_of result) (picture_in pixels.entry) slices.old slices.new }
 {
     check_stages(pixels, slices)?;
     run_checked(pixels, slices);

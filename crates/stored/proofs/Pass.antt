@@ -1,33 +1,19 @@
 -- What is known where the checks pass, and what a refusal gives. Assumes nothing.
-use Rattle.std.proofs.Common.{◌≡◌, ℕ, ◌+◌, ◌≤◌, ◌<◌, Bool, true, false, cond, not, eqb, List, [], ◌∷◌, ◌++◌, length, set, sym, ap, ◌∙◌, le_trans, length-append, add-one, ltb-false}
+use Rattle.std.proofs.lemmas.Bool.{or_parts}
+use Rattle.std.proofs.Common.{◌≡◌, ℕ, ◌+◌, ◌≤◌, ◌<◌, false, not, eqb, List, [], ◌∷◌, ◌++◌, length, set, sym, ap, ◌∙◌, le_trans, length-append, add-one, ltb-false}
 use Rattle.lists.specs.Lists.{tabulate, padded}
 use Rattle.lists.proofs.Padded.{padded_more}
 use Rattle.lists.proofs.Tabulate.{length-tabulate}
-use Rattle.lcr_core.specs.Outcome.{refusal_number, first_of, zero_side, large_side, sides_refusal}
-use Rattle.lcr_core.specs.declared.Refusal.{Refusal}
+use Rattle.lcr_core.specs.Outcome.{first_of, zero_side, large_side}
 use Rattle.lcr_core.specs.Passed.{Sides}
-use Rattle.lcr_core.proofs.Checks.{or_false, first_passes, sides_pass, sides_allowed, some_number}
-use Rattle.geometry.specs.declared.Finder.{Finder}
-use Rattle.geometry.specs.Order.{zero_finder}
+use Rattle.lcr_core.proofs.Checks.{first_passes, sides_pass}
+use Rattle.lcr_core.specs.declared.finder.Finder.{Finder}
+use Rattle.lcr_core.specs.Finder.{zero_finder}
 use Rattle.finders.specs.declared.Finders.{Finders}
 use Rattle.finders.specs.Search.{max_finders}
-use Rattle.finders.specs.Answer.{table_of}
+use Rattle.finders.specs.Answer.{finders_table}
 use Rattle.stored.specs.Stored.{Form, form_two, form_in, count_in, size_in, size_of, bad_length, many_finders, short_output, write_checks}
 use Rattle.stored.proofs.Forms.{form_fits}
-
--- ---- checks of the sides, and others behind them: these decide where the sides pass
-pub sides_then : (w h rest : ℕ) → 0 ≡ sides_refusal w h → cond (zero_side w h) 1 (cond (large_side w h) 2 rest) ≡ rest
-sides_then w h rest e = let p = sides_allowed w h e in rw (← p.0, ← p.1)
-
--- else the sides' refusal
-pub sides_refused : (r : Refusal) (w h rest : ℕ) → refusal_number r ≡ sides_refusal w h → cond (zero_side w h) 1 (cond (large_side w h) 2 rest) ≡ refusal_number r
-unfolding sides_refusal
-sides_refused r w h rest e = go (zero_side w h) (large_side w h) e
-  where
-    go : (z l : Bool) → refusal_number r ≡ cond z 1 (cond l 2 0) → cond z 1 (cond l 2 rest) ≡ refusal_number r
-    go true l q = sym q
-    go false true q = sym q
-    go false false q = absurd (some_number r q)
 
 -- ---- the reader
 -- a count that is not over the most
@@ -40,12 +26,12 @@ pub few_read : (bytes : List ℕ) (len : ℕ) → false ≡ bad_length (form_in 
 unfolding bad_length
 few_read bytes len e =
     let f = form_in bytes in
-    let p = or_false (many_finders f (count_in bytes)) (not (eqb len (size_in f (count_in bytes)))) (sym e) in
+    let p = or_parts (many_finders f (count_in bytes)) (not (eqb len (size_in f (count_in bytes)))) (sym e) in
     le_trans (few_finders f (count_in bytes) (sym p.0)) (form_fits bytes)
 
 -- one finder more in a table
-pub one_more : (t : Finders) (g : ℕ → Finder) (k : ℕ) (f : Finder) → t ≡ table_of (tabulate k g) → k < max_finders → f ≡ g k
-    → record { count = k + 1; table = set t.table k f } ≡ table_of (tabulate (k + 1) g)
+pub one_more : (t : Finders) (g : ℕ → Finder) (k : ℕ) (f : Finder) → t ≡ finders_table (tabulate k g) → k < max_finders → f ≡ g k
+    → record { count = k + 1; table = set t.table k f } ≡ finders_table (tabulate (k + 1) g)
 unfolding tabulate
 one_more t g k f e h q =
     let n = length-tabulate k g in
@@ -55,7 +41,7 @@ one_more t g k f e h q =
     (ap (λ z. set z k f) (ap (λ (z : Finders). z.table) e)
     ∙ rw (q)
     (ap (λ z. set (padded max_finders zero_finder (tabulate k g)) z (g k)) (sym n) ∙ padded_more max_finders zero_finder (tabulate k g) (g k) l))
-    ∙ ap (λ z. table_of (tabulate z g)) (sym (add-one k))
+    ∙ ap (λ z. finders_table (tabulate z g)) (sym (add-one k))
   where
     same : {n m : ℕ} {t u : List Finder} → n ≡ m → t ≡ u → ◌≡◌ {A = Finders} (record { count = n; table = t }) (record { count = m; table = u })
     same p q = rw (p, q)

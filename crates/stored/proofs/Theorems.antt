@@ -16,13 +16,13 @@ use Rattle.little_endian.specs.Bytes.{bytes_le, read_le}
 use Rattle.little_endian.proofs.One.{read_one}
 use Rattle.little_endian.proofs.Pieces.{length_flat}
 use Rattle.little_endian.proofs.Round.{length_bytes, read_after, read_bytes}
-use Rattle.geometry.specs.declared.Finder.{Finder}
-use Rattle.geometry.specs.Order.{zero_finder}
+use Rattle.lcr_core.specs.declared.finder.Finder.{Finder}
+use Rattle.lcr_core.specs.Finder.{zero_finder}
 use Rattle.finders.specs.Search.{max_finders}
-use Rattle.finders.specs.Answer.{table_of}
-use Rattle.stored.specs.Stored.{Form, form_one, form_two, head_size, head_bytes, place_bytes, size_bytes, stored_in, size_in, size_of, stored_bytes, width_in, height_in, finder_at, many_finders, bad_length, read_checks, list_in, read_of}
+use Rattle.finders.specs.Answer.{finders_table}
+use Rattle.stored.specs.Stored.{Form, form_one, form_two, head_size, head_bytes, place_bytes, module_bytes, stored_in, size_in, size_of, stored_bytes, width_in, height_in, stored_finder, many_finders, bad_length, read_checks, list_in, read_of}
 use Rattle.stored.proofs.Forms.{Known, form_is, refused_head, count_fits}
-use Rattle.stored.proofs.Bytes.{length_place, length_size, length_head, length_stored}
+use Rattle.stored.proofs.Bytes.{length_place, length_module, length_head, length_stored}
 
 -- a finder as the code has it: three f32 and a u32
 pub record Storable (f : Finder) : Type 0 where
@@ -60,7 +60,7 @@ module _ (f : Form) (w h : ℕ) (fs : List Finder) (k : ℕ) (d : Finder) (l : k
   P = flat_map place_bytes fs
 
   abbrev S : List ℕ
-  S = flat_map size_bytes fs
+  S = flat_map module_bytes fs
 
   places_at : stored_in f w h fs ≡ (D ++ flat_map place_bytes (take k fs)) ++ (place_bytes (get_or fs k d) ++ (flat_map place_bytes (drop (k + 1) fs) ++ S))
   unfolding stored_in
@@ -69,12 +69,12 @@ module _ (f : Form) (w h : ℕ) (fs : List Finder) (k : ℕ) (d : Finder) (l : k
       ∙ ap (λ z. D ++ z) (append_assoc (flat_map place_bytes (take k fs)) (place_bytes (get_or fs k d) ++ flat_map place_bytes (drop (k + 1) fs)) S ∙ ap (λ z. flat_map place_bytes (take k fs) ++ z) (append_assoc (place_bytes (get_or fs k d)) (flat_map place_bytes (drop (k + 1) fs)) S))
       ∙ sym (append_assoc D (flat_map place_bytes (take k fs)) (place_bytes (get_or fs k d) ++ (flat_map place_bytes (drop (k + 1) fs) ++ S)))
 
-  sizes_at : stored_in f w h fs ≡ ((D ++ P) ++ flat_map size_bytes (take k fs)) ++ (size_bytes (get_or fs k d) ++ flat_map size_bytes (drop (k + 1) fs))
+  modules_at : stored_in f w h fs ≡ ((D ++ P) ++ flat_map module_bytes (take k fs)) ++ (module_bytes (get_or fs k d) ++ flat_map module_bytes (drop (k + 1) fs))
   unfolding stored_in
-  sizes_at =
-      ap (λ z. D ++ (P ++ z)) (flat_at size_bytes fs k d l)
-      ∙ sym (append_assoc D P (flat_map size_bytes (take k fs) ++ (size_bytes (get_or fs k d) ++ flat_map size_bytes (drop (k + 1) fs))))
-      ∙ sym (append_assoc (D ++ P) (flat_map size_bytes (take k fs)) (size_bytes (get_or fs k d) ++ flat_map size_bytes (drop (k + 1) fs)))
+  modules_at =
+      ap (λ z. D ++ (P ++ z)) (flat_at module_bytes fs k d l)
+      ∙ sym (append_assoc D P (flat_map module_bytes (take k fs) ++ (module_bytes (get_or fs k d) ++ flat_map module_bytes (drop (k + 1) fs))))
+      ∙ sym (append_assoc (D ++ P) (flat_map module_bytes (take k fs)) (module_bytes (get_or fs k d) ++ flat_map module_bytes (drop (k + 1) fs)))
 
   taken : length (take k fs) ≡ k
   taken = length-take-le k fs (let m : k ≤ length fs = omega arith in m)
@@ -82,26 +82,26 @@ module _ (f : Form) (w h : ℕ) (fs : List Finder) (k : ℕ) (d : Finder) (l : k
   places_from : length (D ++ flat_map place_bytes (take k fs)) ≡ head_size f + 8 * k
   places_from = omega (arith, length-append D (flat_map place_bytes (take k fs)), length_head f w h (length fs), length_flat place_bytes 8 length_place (take k fs), taken)
 
-  sizes_from : length ((D ++ P) ++ flat_map size_bytes (take k fs)) ≡ head_size f + 8 * length fs + 8 * k
-  sizes_from =
-      omega (arith, length-append (D ++ P) (flat_map size_bytes (take k fs)), length-append D P, length_head f w h (length fs), length_flat place_bytes 8 length_place fs, length_flat size_bytes 8 length_size (take k fs), taken)
+  modules_from : length ((D ++ P) ++ flat_map module_bytes (take k fs)) ≡ head_size f + 8 * length fs + 8 * k
+  modules_from =
+      omega (arith, length-append (D ++ P) (flat_map module_bytes (take k fs)), length-append D P, length_head f w h (length fs), length_flat place_bytes 8 length_place fs, length_flat module_bytes 8 length_module (take k fs), taken)
 
-  finder_is : Storable (get_or fs k d) → finder_at f (stored_in f w h fs) (length fs) k ≡ get_or fs k d
-  unfolding finder_at
+  finder_is : Storable (get_or fs k d) → stored_finder f (stored_in f w h fs) (length fs) k ≡ get_or fs k d
+  unfolding stored_finder
   finder_is s =
       let g = get_or fs k d in
       let B = stored_in f w h fs in
       let p = D ++ flat_map place_bytes (take k fs) in
       let q = flat_map place_bytes (drop (k + 1) fs) ++ S in
-      let u = (D ++ P) ++ flat_map size_bytes (take k fs) in
-      let v = flat_map size_bytes (drop (k + 1) fs) in
+      let u = (D ++ P) ++ flat_map module_bytes (take k fs) in
+      let v = flat_map module_bytes (drop (k + 1) fs) in
       let X = to_bits binary32 g.x in
       let Y = to_bits binary32 g.y in
       let M = to_bits binary32 g.«module» in
       let a = first_of_pair B p q X Y places_at (head_size f + 8 * k) places_from (to_bits-lt binary32 g.x s.x_fits) in
       let b = second_of_pair B p q X Y places_at (head_size f + 8 * k) places_from (to_bits-lt binary32 g.y s.y_fits) in
-      let m = first_of_pair B u v M g.confirmations sizes_at (head_size f + 8 * length fs + 8 * k) sizes_from (to_bits-lt binary32 g.«module» s.module_fits) in
-      let c = second_of_pair B u v M g.confirmations sizes_at (head_size f + 8 * length fs + 8 * k) sizes_from s.count_fits in
+      let m = first_of_pair B u v M g.confirmations modules_at (head_size f + 8 * length fs + 8 * k) modules_from (to_bits-lt binary32 g.«module» s.module_fits) in
+      let c = second_of_pair B u v M g.confirmations modules_at (head_size f + 8 * length fs + 8 * k) modules_from s.count_fits in
       rw (a, b, m, c, of_bits-to_bits binary32 g.x s.x_fits, of_bits-to_bits binary32 g.y s.y_fits, of_bits-to_bits binary32 g.«module» s.module_fits)
 
 -- ---- a list that begins as one of the two forms
@@ -147,7 +147,7 @@ module _ (f : Form) (known : Known f) (w h : ℕ) (fs : List Finder) where
   H = bytes_le 2 h
 
   abbrev rest : List ℕ
-  rest = flat_map place_bytes fs ++ flat_map size_bytes fs
+  rest = flat_map place_bytes fs ++ flat_map module_bytes fs
 
   head_first : B ≡ f.byte ∷ (W ++ (H ++ (bytes_le f.wide n ++ rest)))
   unfolding stored_in
@@ -166,12 +166,12 @@ module _ (f : Form) (known : Known f) (w h : ℕ) (fs : List Finder) where
   count_is few =
       number_at f.wide n B (f.byte ∷ (W ++ H)) rest 5 (head_first ∙ ap (λ z. f.byte ∷ z) (sym (append_assoc W H (bytes_le f.wide n ++ rest)))) (ap suc (length-append W H ∙ rw (length_bytes 2 w, length_bytes 2 h))) (omega (arith, count_fits f known))
 
-  finders_are : Each Storable fs → tabulate n (finder_at f B n) ≡ fs
+  finders_are : Each Storable fs → tabulate n (stored_finder f B n) ≡ fs
   finders_are s =
-      ext_get_or zero_finder (tabulate n (finder_at f B n)) fs (length-tabulate n (finder_at f B n)) (λ i l. at i (subst (λ z. i < z) (length-tabulate n (finder_at f B n)) l))
+      ext_get_or zero_finder (tabulate n (stored_finder f B n)) fs (length-tabulate n (stored_finder f B n)) (λ i l. at i (subst (λ z. i < z) (length-tabulate n (stored_finder f B n)) l))
     where
-      at : (i : ℕ) → i < n → get_or (tabulate n (finder_at f B n)) i zero_finder ≡ get_or fs i zero_finder
-      at i l = get_d_tabulate n (finder_at f B n) i zero_finder l ∙ finder_is f w h fs i zero_finder l (each_get_or Storable fs i zero_finder s l)
+      at : (i : ℕ) → i < n → get_or (tabulate n (stored_finder f B n)) i zero_finder ≡ get_or fs i zero_finder
+      at i l = get_d_tabulate n (stored_finder f B n) i zero_finder l ∙ finder_is f w h fs i zero_finder l (each_get_or Storable fs i zero_finder s l)
 
   module _ (p : Sides w h) (few : n ≤ f.most) where
     passed : 0 ≡ first_of (read_checks B)
@@ -181,7 +181,7 @@ module _ (f : Form) (known : Known f) (w h : ℕ) (fs : List Finder) where
         let s : Sides (width_in B) (height_in B) = rw (width_is (omega (arith, p.w_most)), height_is (omega (arith, p.h_most))) p in
         sym (behind_sides f known B first_is (omega arith) s ∙ rw (count_is few, le-ltb f.most n few, eq-eqb (length B) (size_in f n) l)) ∙ number_checked (read_checks B) (list_in B)
 
-    read_again : Each Storable fs → read_of B ≡ Ok (record { width = w; height = h; finders = table_of fs })
+    read_again : Each Storable fs → read_of B ≡ Ok (record { width = w; height = h; finders = finders_table fs })
     unfolding read_of
     read_again s =
         sym (checked_passed (read_checks B) (list_in B) passed)
@@ -189,7 +189,7 @@ module _ (f : Form) (known : Known f) (w h : ℕ) (fs : List Finder) where
 
 -- of what the writer leaves, the part that it wrote
 written_is_read : (w h : ℕ) (fs : List Finder) → Sides w h → length fs ≤ max_finders → Each Storable fs → (old : List ℕ)
-    → read_of (take (size_of (length fs)) (written (stored_bytes w h fs) old)) ≡ Ok (record { width = w; height = h; finders = table_of fs })
+    → read_of (take (size_of (length fs)) (written (stored_bytes w h fs) old)) ≡ Ok (record { width = w; height = h; finders = finders_table fs })
 written_is_read w h fs p few s old =
     ap read_of (take_at (stored_bytes w h fs) (drop (length (stored_bytes w h fs)) old) (size_of (length fs)) (length_stored form_two w h fs)) ∙ read_again form_two (inr refl) w h fs p few s
 

@@ -1,4 +1,4 @@
--- What the reader's check hands on. For contracts of inner functions.
+-- For inner contracts and proofs. What the reader's check hands on.
 use Rattle.std.specs.Prelude.{ℕ, List}
 use Rattle.stored.specs.declared.check.Head.{Head}
 use Rattle.stored.specs.Stored.{form_in, head_size, count_in}

@@ -3,7 +3,7 @@ ghost use Rattle.std.specs.Prelude.{◌≡◌, ◌≤◌, length, IfOk};
 ghost use Rattle.std.specs.Option.{is_none, IfSome};
 ghost use Rattle.lcr_core.specs.Outcome.{number_of, first_of};
 ghost use Rattle.finders.specs.Search.{max_finders};
-ghost use Rattle.stored.specs.Stored.{form_two, no_form, form_in, count_in, bad_length, many_finders, short_output, read_refusal, write_checks};
+ghost use Rattle.stored.specs.Stored.{form_two, no_form, form_in, count_in, size_of, bad_length, many_finders, short_output, read_refusal, write_checks};
 ghost use Rattle.stored.specs.Inner.{head_in};
 
 use lcr_core::{Refusal, check_sides};
@@ -12,7 +12,13 @@ use little_endian::get;
 // How many finders a list of form 1 has at most.
 const MOST_OF_FORM_ONE: u32 = 128;
 
-// What a list's form and its head say: the bytes before the pairs, how many finders there are at most, and how many there are.
+// The bytes before the pairs in form 1: the form, the width, the height, and a count of one byte.
+const HEAD_OF_FORM_ONE: u32 = 6;
+
+// Those in form 2, whose count has two bytes.
+pub const HEAD_OF_FORM_TWO: u32 = 7;
+
+// What the head of a list says: how many bytes it has itself, and of the finders how many its form has at most and how many there are.
 #[derive(Clone, Copy)]
 pub struct Head {
     pub size: u32,
@@ -28,12 +34,12 @@ fn head_of(bytes: &[u8]) -> Option<Head>
 {
     match get::<u8>(bytes, 0) {
         1 => Some(Head {
-            size: 6,
+            size: HEAD_OF_FORM_ONE,
             most: MOST_OF_FORM_ONE,
             count: get::<u8>(bytes, 5) as u32,
         }),
         2 => Some(Head {
-            size: 7,
+            size: HEAD_OF_FORM_TWO,
             most: finders::MAX_FINDERS as u32,
             count: get::<u16>(bytes, 5) as u32,
         }),
@@ -41,7 +47,7 @@ fn head_of(bytes: &[u8]) -> Option<Head>
     }
 }
 
-// Whether the length is not that of so many finders, or these are too many.
+// Whether there are more finders than the form has at most, or the length is not that of so many.
 #[tactic(auto, unfolding(crate::specs::Stored::bad_length, crate::specs::Stored::many_finders))]
 fn bad_length(bytes: &[u8], head: Head) -> bool
     requires { head ≡ head_in bytes.now }
@@ -57,16 +63,24 @@ fn many_finders(count: usize) -> bool
     finders::MAX_FINDERS < count
 }
 
+// The bytes of a list of so many finders in form 2.
+pub fn size_of(count: usize) -> usize
+    requires { count ≤ max_finders }
+    ensures { result ≡ size_of count }
+{
+    HEAD_OF_FORM_TWO as usize + 16 * count
+}
+
 #[tactic(auto, unfolding(crate::specs::Stored::short_output))]
 fn short_output(len: usize, count: usize) -> bool
     requires { count ≤ max_finders }
     ensures { result ≡ short_output len count }
 {
-    len < 7 + 16 * count
+    len < size_of(count)
 }
 
 // The head of a list, or refusal 8, 1, 2 or 8.
-#[tactic(auto, using(crate::proofs::Forms::head_cases, crate::proofs::Pass::few_read, crate::proofs::Pass::sides_then, crate::proofs::Pass::sides_refused, lcr_core::proofs::Checks::same_number), unfolding(crate::specs::Stored::read_refusal))]
+#[tactic(auto, using(crate::proofs::Forms::head_cases, crate::proofs::Pass::few_read, lcr_core::proofs::Checks::sides_then, lcr_core::proofs::Checks::sides_refused, lcr_core::proofs::Checks::same_number), unfolding(crate::specs::Stored::read_refusal))]
 pub fn check_read(bytes: &[u8]) -> Result<Head, Refusal>
     ensures number { number_of result ≡ read_refusal bytes.now }
     ensures head { IfOk result (λ head. (head ≡ head_in bytes.now) × (head.count ≤ max_finders)) }
@@ -86,7 +100,8 @@ pub fn check_read(bytes: &[u8]) -> Result<Head, Refusal>
     Ok(head)
 }
 
-#[tactic(auto, using(crate::proofs::Pass::few_finders, crate::proofs::Pass::sides_then, crate::proofs::Pass::sides_refused, lcr_core::proofs::Checks::same_number))]
+// Refusal 1, 2, 8 or 5 of a list of so many finders, with len bytes of room.
+#[tactic(auto, using(crate::proofs::Pass::few_finders, lcr_core::proofs::Checks::sides_then, lcr_core::proofs::Checks::sides_refused, lcr_core::proofs::Checks::same_number))]
 pub fn check_write(count: usize, width: u32, height: u32, len: usize) -> Result<(), Refusal>
     ensures { number_of result ≡ first_of (write_checks count width height len) }
 {

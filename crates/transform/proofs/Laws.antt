@@ -2,12 +2,12 @@
 use Rattle.std.proofs.Common.{◌≡◌, ℕ, ◌-◌, Bool, false, cond, List, [], ◌∷◌, ◌++◌, get_or, Option, Some, None, option_map, sym, refl, ap, ◌∙◌}
 use lib.Ieee.{Float, nan, inf, lt, eq, div, of_bits}
 use Rattle.float.specs.Floats.{abs_of, narrow_of, min_of, max_of}
-use Rattle.float.specs.Steps.{plus32, times32, over32, plus64, over64}
-use Rattle.float.specs.Constants.{f0, f1, half, f1_5, d0, d1, d1e_9}
+use Rattle.float.specs.Steps.{◌⊕◌, ◌⊗◌, ◌⊘◌, ◌⊞◌, ◌⧄◌}
+use Rattle.float.specs.Constants.{f0, f1, f1/2, f1_5, d0, d1, d1e_9}
 use Rattle.math.specs.Solve.{augmented, solution_of}
 use Rattle.transform.specs.Fit.{plain, widened, homography_rows, affine_rows, affine_numbers, both, fit_of, quad_fit, triangle_fit}
 use Rattle.transform.specs.Apply.{linear_of, apart_of, projected, offset_of, divided, bent, applied, in_module, center_of, distance_of, pitch_at, pitches_of}
-use Rattle.transform.specs.declared.Point.{Point}
+use Rattle.lcr_core.specs.declared.point.Point.{Point}
 use Rattle.transform.specs.declared.Wide.{Wide}
 use Rattle.transform.specs.declared.Triangle.{Triangle}
 use Rattle.transform.specs.declared.Quad.{Quad}
@@ -54,14 +54,14 @@ pub projected_is : (m : List Float) (p : Wide) (q w x y : Float)
     → q ≡ linear_of (get_or m 6 nan) (get_or m 7 nan) d1 p → w ≡ apart_of q
     → x ≡ linear_of (get_or m 0 nan) (get_or m 1 nan) (get_or m 2 nan) p
     → y ≡ linear_of (get_or m 3 nan) (get_or m 4 nan) (get_or m 5 nan) p
-    → ◌≡◌ {A = Wide} (record { x = over64 x w; y = over64 y w }) (projected m p)
+    → ◌≡◌ {A = Wide} (record { x = x ⧄ w; y = y ⧄ w }) (projected m p)
 unfolding projected
 projected_is m p q w x y a c d e = cc
 
 -- ---- the lens
 pub bent_is : (t : Transform) (p u a b c d : Wide) (x y : Float) → u ≡ offset_of p t.cx t.cy
     → a ≡ divided t.strength u u → b ≡ divided t.strength u a → c ≡ divided t.strength u b → d ≡ divided t.strength u c
-    → x ≡ narrow_of (plus64 t.cx d.x) → y ≡ narrow_of (plus64 t.cy d.y) → ◌≡◌ {A = Point} (record { x = x; y = y }) (bent t p)
+    → x ≡ narrow_of (t.cx ⊞ d.x) → y ≡ narrow_of (t.cy ⊞ d.y) → ◌≡◌ {A = Point} (record { x = x; y = y }) (bent t p)
 unfolding bent
 bent_is t p u a b c d x y eu ea eb ec ed ex ey = rw (ex, ey, ed, ec, eb, ea, eu)
 
@@ -70,12 +70,12 @@ unfolding applied
 applied-bent t u v w p r e ew ep er = rw e (er ∙ ap (bent t) (ep ∙ ap (projected t.m) ew))
 
 -- ---- pitches
-pub pitch_is : (t : Transform) (x y : ℕ) (c r d : Point) (a b : Float) → c ≡ center_of t x y → r ≡ in_module t x y f1_5 half → d ≡ in_module t x y half f1_5
-    → a ≡ distance_of c r → b ≡ distance_of c d → times32 half (plus32 a b) ≡ pitch_at t x y
+pub pitch_is : (t : Transform) (x y : ℕ) (c r d : Point) (a b : Float) → c ≡ center_of t x y → r ≡ in_module t x y f1_5 f1/2 → d ≡ in_module t x y f1/2 f1_5
+    → a ≡ distance_of c r → b ≡ distance_of c d → f1/2 ⊗ (a ⊕ b) ≡ pitch_at t x y
 unfolding pitch_at
 pitch_is t x y c r d a b e f g h i = cc
 
-pub infinite : over32 f1 f0 ≡ inf false
+pub infinite : f1 ⊘ f0 ≡ inf false
 unfolding div of_bits
 infinite = refl
 

@@ -3,8 +3,8 @@
 use Rattle.std.proofs.Common.{◌≡◌, ℕ, ◌-◌, true, false, List, Option, Some, None, IfSome, sym, refl, ◌∙◌}
 use lib.Ieee.{Float, nan, inf, fin, neg, eq, of_bits, add, mul, div}
 use Rattle.float.specs.Floats.{narrow_of}
-use Rattle.float.specs.Steps.{plus32, whole32, plus64, over64}
-use Rattle.float.specs.Constants.{half, f1_5, d0, d1}
+use Rattle.float.specs.Steps.{◌⊕◌, whole32, ◌⊞◌, ◌⧄◌}
+use Rattle.float.specs.Constants.{f1/2, f1_5, d0, d1}
 use Rattle.transform.specs.Fit.{plain, Plain, fit_of, quad_fit, triangle_fit}
 use Rattle.transform.specs.Apply.{placed, divided, bent, applied, in_module, center_of, pitch_at, pitches_of}
 use Rattle.transform.specs.declared.Quad.{Quad}
@@ -38,28 +38,28 @@ module _ (t : Transform) (e : eq t.strength d0 ≡ true) where
 
   same_in : (x y : ℕ) (dx dy : Float) → in_module t x y dx dy ≡ in_module (plain t.m) x y dx dy
   unfolding in_module
-  same_in x y dx dy = same_places (plus32 (whole32 x) dx) (plus32 (whole32 y) dy)
+  same_in x y dx dy = same_places (whole32 x ⊕ dx) (whole32 y ⊕ dy)
 
   pub same_center : (x y : ℕ) → center_of t x y ≡ center_of (plain t.m) x y
   unfolding center_of
-  same_center x y = same_in x y half half
+  same_center x y = same_in x y f1/2 f1/2
 
   pub same_pitch : (x y : ℕ) → pitch_at t x y ≡ pitch_at (plain t.m) x y
   unfolding pitch_at
-  same_pitch x y = rw (same_center x y, same_in x y f1_5 half, same_in x y half f1_5)
+  same_pitch x y = rw (same_center x y, same_in x y f1_5 f1/2, same_in x y f1/2 f1_5)
 
   pub same_pitches : (side : ℕ) → pitches_of t side ≡ pitches_of (plain t.m) side
   unfolding pitches_of
   same_pitches side = let far = side - 2 in rw (same_pitch 0 0, same_pitch far 0, same_pitch 0 far, same_pitch far far)
 
 -- ---- a not-a-number gives not-a-numbers
-plus_nan : (x : Float) → plus64 x nan ≡ nan
+plus_nan : (x : Float) → x ⊞ nan ≡ nan
 unfolding add
 plus_nan nan = refl
 plus_nan (inf s) = refl
 plus_nan (fin s m e) = refl
 
-over_nan : (x : Float) → over64 x nan ≡ nan
+over_nan : (x : Float) → x ⧄ nan ≡ nan
 unfolding div
 over_nan nan = refl
 over_nan (inf s) = refl

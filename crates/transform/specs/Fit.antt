@@ -1,12 +1,12 @@
--- The map from modules to pixels (`Transform` of document 002), first how it is fitted: the linear equations of a homography
--- through four points, and of an affine map through three. Document 01: `Transform` refuses nothing, "none" is its answer where the Rust gives `None`,
--- and the floats handed in may be any. Steps are f64. Definitions only.
+-- To be believed. The map from modules to pixels (`Transform` of document 002), first how it is fitted: the linear equations of a homography through four
+-- points, and of an affine map through three. Document 01: `Transform` refuses nothing, "none" is its answer where the Rust gives `None`, and the floats
+-- handed in may be any. Steps are f64.
 use Rattle.std.specs.Prelude.{◌≡◌, List, [], ◌∷◌, ◌++◌, replicate, Float, Option, option_map}
 use Rattle.std.specs.Float.Ieee.{neg}
-use Rattle.float.specs.Steps.{times64}
+use Rattle.float.specs.Steps.{◌⊠◌}
 use Rattle.float.specs.Constants.{d0, d1}
 use Rattle.math.specs.Solve.{augmented, solution_of}
-use Rattle.transform.specs.declared.Point.{Point}
+use Rattle.lcr_core.specs.declared.point.Point.{Point}
 use Rattle.transform.specs.declared.Wide.{Wide}
 use Rattle.transform.specs.declared.Triangle.{Triangle}
 use Rattle.transform.specs.declared.Quad.{Quad}
@@ -35,8 +35,8 @@ widened p = record { x = p.x; y = p.y }
 -- (u, v) goes to (x, y): m0 u + m1 v + m2 - x u m6 - x v m7 = x, and m3 u + m4 v + m5 - y u m6 - y v m7 = y
 abbrev pub homography_rows : Wide → Wide → List (List Float)
 homography_rows s d =
-    (s.x ∷ s.y ∷ d1 ∷ d0 ∷ d0 ∷ d0 ∷ times64 (neg d.x) s.x ∷ times64 (neg d.x) s.y ∷ [])
-    ∷ (d0 ∷ d0 ∷ d0 ∷ s.x ∷ s.y ∷ d1 ∷ times64 (neg d.y) s.x ∷ times64 (neg d.y) s.y ∷ [])
+    (s.x ∷ s.y ∷ d1 ∷ d0 ∷ d0 ∷ d0 ∷ neg d.x ⊠ s.x ∷ neg d.x ⊠ s.y ∷ [])
+    ∷ (d0 ∷ d0 ∷ d0 ∷ s.x ∷ s.y ∷ d1 ∷ neg d.y ⊠ s.x ∷ neg d.y ⊠ s.y ∷ [])
     ∷ []
 
 -- without m6 and m7

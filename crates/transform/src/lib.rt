@@ -6,12 +6,7 @@ ghost use Rattle.transform.specs.Fit.{plain, zero_transform, identity_transform,
 ghost use Rattle.transform.specs.Apply.{linear_of, apart_of, projected, narrowed, placed, offset_of, divided, bent, applied, with_radial, center_of, distance2_of, distance_of, pitch_at, pitches_of};
 
 use float::Float;
-
-#[derive(Clone, Copy)]
-pub struct Point {
-    pub x: f32,
-    pub y: f32,
-}
+use lcr_core::point::Point;
 
 #[derive(Clone, Copy)]
 pub struct Triangle {

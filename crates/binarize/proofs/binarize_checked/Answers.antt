@@ -1,7 +1,6 @@
 -- `binarize::binarize_checked` meets its contract. Assumes nothing.
-use mathlib.Core.Path.{sym, ◌∙◌}
+use mathlib.Core.Path.{◌∙◌}
 use native.Mathlib.Omega.{arith}
-use Rattle.lcr_core.proofs.Checks.{unless_done}
 use Rattle.binary.proofs.Words.{bytes_same}
 use Rattle.blocks.proofs.Marking.{at-filled}
 use Rattle.blocks.proofs.Refusals as blocks
@@ -21,7 +20,7 @@ pub returns-clause-bits : goal.returns-clause-bits
 returns-clause-bits c =
     let a = c.args in
     let e = c.block_values.ensures in
-    let z = e.refusal ∙ c.requires.values in
+    let v = rw (e.refusal ∙ c.requires.values) at e.values in
     c.put_picture.ensures
     ∙ bytes_same _ _ _ _
-    (dark_same _ _ _ _ _ _ a.gray.gray.now a.gray.width a.gray.height (at-filled _ _ _ _ (e.means ∙ sym (unless_done _ _ _ z))) (at-filled _ _ _ _ (e.edges ∙ sym (unless_done _ _ _ z))) (at-filled _ _ _ _ (e.nears ∙ sym (unless_done _ _ _ z))))
+    (dark_same _ _ _ _ _ _ a.gray.gray.now a.gray.width a.gray.height (at-filled _ _ _ _ v.means) (at-filled _ _ _ _ v.edges) (at-filled _ _ _ _ v.nears))

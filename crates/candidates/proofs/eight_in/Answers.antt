@@ -3,4 +3,4 @@ use Rattle.candidates.proofs.Tables.{first_eight_is}
 use Rattle.candidates.proofs.eight_in.Goals as goal
 
 pub returns : goal.returns
-returns c = λ fs e. first_eight_is _ fs _ _ e c.first_eight.ensures c.table_of.ensures
+returns c = λ fs e. first_eight_is _ fs _ _ e c.first_eight.ensures c.eight_places.ensures

@@ -2,9 +2,8 @@
 use mathlib.Core.Path.{◌≡◌}
 use lib.ListN.{take}
 use Rattle.lists.specs.Lists.{flat_map}
-use Rattle.little_endian.specs.Bytes.{put}
-use Rattle.firmware.specs.Firmware.{double_bytes, numbers_of}
+use Rattle.little_endian.specs.Bytes.{put, double_bytes}
 use Rattle.firmware.proofs.put_transform.Given as goal
 
 abbrev pub invariant-loop-k : goal.invariant-loop-k
-invariant-loop-k l = l.out ≡ put (flat_map double_bytes (take l.k (numbers_of l.fn.t))) l.at l.initial.out
+invariant-loop-k l = l.out ≡ put (flat_map double_bytes (take l.k l.fn.t.m)) l.at l.initial.out

@@ -1,6 +1,6 @@
 -- `math::solve` meets its contract. Assumes nothing.
 use Rattle.std.proofs.Common.{ap, ◌∙◌, arith}
-use Rattle.math.specs.Solve.{Matrix, augmented, first, unknowns}
+use Rattle.math.specs.Solve.{Matrix, augmented, first_unknowns, unknowns}
 use Rattle.math.proofs.Systems.{sized}
 use Rattle.math.proofs.Elimination.{found_is, none_is}
 use Rattle.math.proofs.solve.Goals as goal
@@ -15,7 +15,7 @@ pub returns-then-triangulate : goal.returns-then-triangulate
 returns-then-triangulate g c =
     let n = g.row.N in
     found_is n (augmented n c.args.a.now c.args.b.now) _ c.triangulate.ensures.value c.if-triangulate.true _
-    (c.back_substitute.ensures ∙ ap (λ (m : Matrix). first n (unknowns n m n)) (c.triangulate.ensures.holds c.if-triangulate.true))
+    (c.back_substitute.ensures ∙ ap (λ (m : Matrix). first_unknowns n (unknowns n m n)) (c.triangulate.ensures.holds c.if-triangulate.true))
 
 pub returns-else-triangulate : goal.returns-else-triangulate
 returns-else-triangulate g c =

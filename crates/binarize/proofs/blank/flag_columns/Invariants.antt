@@ -1,5 +1,5 @@
 -- `binarize::blank::flag_columns` meets its contract: the rows before y are done. Assumes nothing.
-use Rattle.blocks.specs.Blocks.{at}
+use Rattle.lists.specs.Lists.{at}
 use Rattle.binarize.specs.Flags.{Flagged}
 use Rattle.binarize.proofs.blank.flag_columns.Given as goal
 

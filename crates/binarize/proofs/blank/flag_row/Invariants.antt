@@ -1,8 +1,7 @@
 -- `binarize::blank::flag_row` meets its contract: the first x columns are done. Assumes nothing.
 use Prim.Native.Nat.{◌+◌}
 use mathlib.Core.Path.{◌≡◌}
-use Rattle.lists.specs.Lists.{filled}
-use Rattle.blocks.specs.Blocks.{at}
+use Rattle.lists.specs.Lists.{filled, at}
 use Rattle.binarize.specs.Flags.{flagged}
 use Rattle.binarize.proofs.blank.flag_row.Given as goal
 

@@ -1,7 +1,7 @@
 -- `binarize::blank::level_by` meets its contract. Assumes nothing.
 use mathlib.Core.Path.{sym, ◌∙◌}
 use native.Mathlib.Omega.{arith}
-use Rattle.blocks.specs.Blocks.{at}
+use Rattle.lists.specs.Lists.{at}
 use Rattle.binarize.specs.Flags.{Flagged}
 use Rattle.binarize.proofs.FlagLaws.{all_zero, level-none-about}
 use Rattle.binarize.proofs.blank.level_by.Goals as goal

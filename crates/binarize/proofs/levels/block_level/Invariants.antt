@@ -1,7 +1,7 @@
 -- `binarize::levels::block_level` meets its contract: the windows before this kind have no marked block. Assumes nothing.
 use Prim.Native.Nat.{◌-◌, ◌≤◌}
 use mathlib.Core.Path.{◌≡◌}
-use Rattle.blocks.specs.Blocks.{at}
+use Rattle.lists.specs.Lists.{at}
 use Rattle.binarize.specs.Levels.{window_level}
 use Rattle.binarize.proofs.LevelLaws.{from}
 use Rattle.binarize.proofs.levels.block_level.Given as goal

@@ -43,7 +43,7 @@ loop-s-preserved c =
     let l = c.loop-s in
     let m = c.in-Some.ensures in
     let s = c.in-Some.s in
-    let h : Sighting = record { x = s.point.x; y = s.point.y; pitch = s.module } in
+    let h : Sighting = record { x = s.point.x; y = s.point.y; «module» = s.module } in
     let g = merge_next max_finders in
     let e = c.in_ok-merge.ensures in
     let k = 2 ^ 32 - 2 - max_side + l.w.at in record {

@@ -3,8 +3,8 @@ use mathlib.Core.Path.{◌≡◌}
 use lib.ListN.{take}
 use Rattle.lists.specs.Lists.{flat_map}
 use Rattle.little_endian.specs.Bytes.{put}
-use Rattle.stored.specs.Stored.{place_bytes}
+use Rattle.stored.specs.Stored.{form_two, head_size, place_bytes}
 use Rattle.stored.proofs.write.put_places.Given as goal
 
 abbrev pub invariant-loop-k : goal.invariant-loop-k
-invariant-loop-k l = l.out ≡ put (flat_map place_bytes (take l.k l.f-items)) 7 l.initial.out
+invariant-loop-k l = l.out ≡ put (flat_map place_bytes (take l.k l.f-items)) (head_size form_two) l.initial.out

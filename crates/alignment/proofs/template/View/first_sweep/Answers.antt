@@ -3,7 +3,7 @@ use mathlib.Core.Path.{refl}
 use native.Mathlib.Omega.{arith}
 use lib.Ieee.{of_bits, div}
 use Rattle.lcr_core.specs.Version.{side_of}
-use Rattle.alignment.specs.Template.{centre_of}
+use Rattle.alignment.specs.Template.{marker_centre}
 use Rattle.alignment.proofs.Colours.{known_all}
 use Rattle.alignment.proofs.Views.{version_most}
 use Rattle.alignment.proofs.template.View.first_sweep.Goals as goal
@@ -15,7 +15,7 @@ pub fill_colours-requires : goal.fill_colours-requires
 fill_colours-requires c = (omega (arith, c.side.ensures, version_most _ _ _ _ c.args.self.now.passes), refl)
 
 pub sweep-requires : goal.sweep-requires
-unfolding centre_of
+unfolding marker_centre
 sweep-requires c =
     let a = c.args in let s = a.self.now in
     let e = rw c.side.ensures at c.fill_colours.ensures in

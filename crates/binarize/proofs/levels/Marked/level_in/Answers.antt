@@ -2,7 +2,7 @@
 use mathlib.Core.Path.{sym, ap₂, ◌∙◌}
 use mathlib.Core.List.{List}
 use Prim.Native.Nat.{ℕ, ◌/◌}
-use Rattle.blocks.specs.Blocks.{at}
+use Rattle.lists.specs.Lists.{at}
 use Rattle.blocks.specs.Rects.{cells_of}
 use Rattle.binarize.specs.Levels.{marked_means}
 use Rattle.binarize.specs.Splits.{Tallied, tally_of}

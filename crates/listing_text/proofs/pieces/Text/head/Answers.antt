@@ -1,4 +1,4 @@
--- `listing_text::lines::Text::head` meets its contract. Assumes nothing.
+-- `listing_text::pieces::Text::head` meets its contract. Assumes nothing.
 use Rattle.listing_text.proofs.LineLaws.{head_adds}
 use Rattle.listing_text.proofs.pieces.Text.head.Goals as goal
 

@@ -1,4 +1,4 @@
--- `listing_text::lines::Text::lines` meets its contract. Assumes nothing.
+-- `listing_text::pieces::Text::lines` meets its contract. Assumes nothing.
 use Prim.Native.Nat.{◌*◌}
 use lib.ListN.{take}
 use Rattle.lists.specs.Lists.{flat_map}

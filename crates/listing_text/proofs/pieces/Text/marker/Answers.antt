@@ -1,4 +1,4 @@
--- `listing_text::lines::Text::marker` meets its contract. Assumes nothing.
+-- `listing_text::pieces::Text::marker` meets its contract. Assumes nothing.
 use native.Mathlib.Omega.{arith}
 use Rattle.listing_text.proofs.LineLaws.{marker_adds, missing_adds}
 use Rattle.listing_text.proofs.pieces.Text.marker.Goals as goal

@@ -1,4 +1,4 @@
--- `listing_text::lines::Text::numbers` meets its contract. Assumes nothing.
+-- `listing_text::pieces::Text::numbers` meets its contract. Assumes nothing.
 use Prim.Native.Nat.{ℕ, ◌*◌}
 use mathlib.Core.List.{List}
 use lib.ListN.{get_or}

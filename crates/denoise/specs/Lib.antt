@@ -1,0 +1,3 @@
+pub mod Denoise
+pub mod Passed
+pub mod Window

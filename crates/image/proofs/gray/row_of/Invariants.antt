@@ -1,9 +1,0 @@
--- `image::gray::row_of` meets its contract: the first x pixels are written. Assumes nothing.
-use Prim.Native.Nat.{◌*◌}
-use mathlib.Core.Path.{◌≡◌}
-use Rattle.lists.specs.Lists.{filled}
-use Rattle.image.specs.Gray.{gray_of}
-use Rattle.image.proofs.gray.row_of.Given as goal
-
-abbrev pub invariant-loop-x : goal.invariant-loop-x
-invariant-loop-x g l = l.out ≡ filled l.x (λ k. gray_of l.src g.row.STEP (k * g.row.STEP)) l.initial.out

@@ -1,4 +1,0 @@
-pub mod Gray
-pub mod Denoise
-pub mod Passed
-pub mod Window

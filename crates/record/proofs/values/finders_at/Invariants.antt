@@ -1,8 +1,0 @@
--- `record::values::finders_at` meets its contract. Assumes nothing.
-use Rattle.std.proofs.Common.{◌≡◌, ◌+◌, ◌*◌}
-use Rattle.lists.specs.Lists.{filled}
-use Rattle.record.specs.Record.{finder_at}
-use Rattle.record.proofs.values.finders_at.Given as goal
-
-abbrev pub invariant-loop-i : goal.invariant-loop-i
-invariant-loop-i l = l.f-items ≡ filled l.i (λ k. finder_at l.p (l.at + 16 * k)) l.initial.f-items

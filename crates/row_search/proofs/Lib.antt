@@ -1,0 +1,4 @@
+pub mod ColumnLaws
+pub mod Walks
+pub mod RowLaws
+pub mod Windows

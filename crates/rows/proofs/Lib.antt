@@ -1,4 +1,0 @@
-pub mod Windows
-pub mod ColumnLaws
-pub mod Walks
-pub mod RowLaws
