@@ -8,7 +8,7 @@ ghost use Rattle.binarize.specs.Binarize.{binarize_refusal, dark_after};
 ghost use Rattle.binarize.specs.Splits.{BinarizePassed};
 
 use blocks::picture::{GrayPicture, LentGray};
-use blocks::{Blocks, block_values, check_blocks};
+use blocks::{Blocks, block_values, check_blocks_lengths};
 use lcr_core::Refusal;
 use writing::put_picture;
 
@@ -18,15 +18,34 @@ mod levels;
 mod split;
 mod writing;
 
-// What `binarize` refuses, with `room` bytes for the bits.
-pub fn check_binarize(gray: LentGray<'_>, blocks: &Blocks<'_>, room: usize) -> Result<(), Refusal>
-    ensures { let p = gray.entry in number_of result ≡ binarize_refusal (length p.gray.now) p.width p.height room (lengths blocks.now) }
+// What `binarize` refuses of `len` gray bytes, with `room` bytes for the bits, and work slices of these lengths, in the order of `Blocks`.
+pub fn check_binarize_lengths(
+    len: usize,
+    width: u32,
+    height: u32,
+    room: usize,
+    work: [usize; 5],
+) -> Result<(), Refusal>
+    ensures { number_of result ≡ binarize_refusal len width height room work }
 {
-    check_blocks(gray, blocks)?;
-    if room < (gray.width as usize * gray.height as usize).div_ceil(8) {
+    check_blocks_lengths(len, width, height, work)?;
+    if room < (width as usize * height as usize).div_ceil(8) {
         return Err(Refusal::ShortOutput);
     }
     Ok(())
+}
+
+// What it refuses of a picture and work slices that are lent, with `room` bytes for the bits.
+pub fn check_binarize(gray: LentGray<'_>, blocks: &Blocks<'_>, room: usize) -> Result<(), Refusal>
+    ensures { let p = gray.entry in number_of result ≡ binarize_refusal (length p.gray.now) p.width p.height room (lengths blocks.now) }
+{
+    check_binarize_lengths(
+        gray.gray.len(),
+        gray.width,
+        gray.height,
+        room,
+        blocks.lengths(),
+    )
 }
 
 // Black and white conversion of a picture that passed the checks, so that `block_values` does not refuse it.

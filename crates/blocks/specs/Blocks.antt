@@ -75,13 +75,19 @@ unfoldable pub under : ℕ → List ℕ → Bool
 under n [] = false
 under n (l ∷ ls) = ltb l n || under n ls
 
--- the checks, for len gray bytes and work slices of these lengths
+-- the checks of the picture alone, of len gray bytes: 1, 2, 4
+abbrev pub picture_checks : ℕ → ℕ → ℕ → List Check
+picture_checks len w h =
+    side_checks w h ++ (record { refuses = ltb len (w * h); refusal = ShortPicture } ∷ [])
+
+-- the number of the first that refuses
+unfoldable pub picture_refusal : ℕ → ℕ → ℕ → ℕ
+picture_refusal len w h = first_of (picture_checks len w h)
+
+-- and behind them 5, for work slices of these lengths
 abbrev pub blocks_checks : ℕ → ℕ → ℕ → List ℕ → List Check
 blocks_checks len w h work =
-    side_checks w h
-    ++ (record { refuses = ltb len (w * h); refusal = ShortPicture }
-    ∷ record { refuses = under (blocks_in w h) work; refusal = ShortOutput }
-    ∷ [])
+    picture_checks len w h ++ (record { refuses = under (blocks_in w h) work; refusal = ShortOutput } ∷ [])
 
 -- the number of the first that refuses
 unfoldable pub blocks_refusal : ℕ → ℕ → ℕ → List ℕ → ℕ

@@ -7,14 +7,16 @@ ghost use Rattle.lcr_core.specs.Outcome.{number_of};
 ghost use Rattle.blocks.specs.Blocks.{blocks_in, blocks_refusal};
 ghost use Rattle.blocks.specs.Work.{lengths, SameBlocks, HasValues};
 
-use lcr_core::{Refusal, check_sides};
+use lcr_core::Refusal;
 use marks::{edge_marks, near_marks};
 use picture::{GrayPicture, LentGray, blocks_on};
+use refusal::check_picture;
 use stats::all_values;
 
 mod marks;
 pub mod picture;
 pub mod rect;
+mod refusal;
 mod stats;
 
 // The five work slices: a byte for each block in each.
@@ -28,36 +30,49 @@ pub struct Blocks<'a> {
 }
 
 impl Blocks<'_> {
-    // Whether one is too short for n blocks.
-    fn is_short(&self, n: usize) -> bool
-        ensures { result ≡ list_any (λ length. nat_lt length n) (lengths self.now) }
+    // How many bytes each has.
+    pub fn lengths(&self) -> [usize; 5]
+        ensures { result ≡ lengths self.now }
     {
-        let lengths = [
+        [
             self.means.len(),
             self.least.len(),
             self.greatest.len(),
             self.edges.len(),
             self.nears.len(),
-        ];
-        lengths.iter().any(|length| *length < n)
+        ]
     }
 }
 
-// What `block_values` refuses.
-pub fn check_blocks(gray: LentGray<'_>, blocks: &Blocks<'_>) -> Result<(), Refusal>
-    ensures { let p = gray.entry in number_of result ≡ blocks_refusal (length p.gray.now) p.width p.height (lengths blocks.now) }
+// Whether one of the work slices is too short for n blocks.
+fn is_short(work: [usize; 5], n: usize) -> bool
+    ensures { result ≡ list_any (λ length. nat_lt length n) work }
 {
-    check_sides(gray.width, gray.height)?;
-    let w = gray.width as usize;
-    let h = gray.height as usize;
-    if gray.gray.len() < w * h {
-        return Err(Refusal::ShortPicture);
-    }
-    let n = blocks_on(h) * blocks_on(w);
-    if blocks.is_short(n) {
+    work.iter().any(|length| *length < n)
+}
+
+// What `block_values` refuses of `len` gray bytes, with work slices of these lengths, in the order of `Blocks`.
+pub fn check_blocks_lengths(
+    len: usize,
+    width: u32,
+    height: u32,
+    work: [usize; 5],
+) -> Result<(), Refusal>
+    ensures { number_of result ≡ blocks_refusal len width height work }
+{
+    check_picture(len, width, height)?;
+    let n = blocks_on(height as usize) * blocks_on(width as usize);
+    if is_short(work, n) {
         return Err(Refusal::ShortOutput);
     }
     Ok(())
+}
+
+// What it refuses of a picture and work slices that are lent.
+pub fn check_blocks(gray: LentGray<'_>, blocks: &Blocks<'_>) -> Result<(), Refusal>
+    ensures { let p = gray.entry in number_of result ≡ blocks_refusal (length p.gray.now) p.width p.height (lengths blocks.now) }
+{
+    check_blocks_lengths(gray.gray.len(), gray.width, gray.height, blocks.lengths())
 }
 
 // The values and marks of a picture, into work slices that have room.

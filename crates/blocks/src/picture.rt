@@ -1,7 +1,11 @@
 // Gray pictures and their blocks.
-ghost use Rattle.std.specs.Prelude.{◌≡◌, ◌*◌, ◌≤◌, ◌<◌, length};
+ghost use Rattle.std.specs.Prelude.{◌≡◌, ◌*◌, ◌≤◌, ◌<◌, length, IfOk};
+ghost use Rattle.lcr_core.specs.Outcome.{number_of};
 ghost use Rattle.lcr_core.specs.Passed.{Sides};
-ghost use Rattle.blocks.specs.Blocks.{blocks_on, blocks_in};
+ghost use Rattle.blocks.specs.Blocks.{blocks_on, blocks_in, picture_refusal};
+
+use super::refusal::check_picture;
+use lcr_core::Refusal;
 
 // How many blocks there are along a side: the last one is cut.
 pub fn blocks_on(side: usize) -> usize
@@ -26,6 +30,21 @@ pub struct GrayPicture<'a> {
     pub height: usize,
     pub ghost sides: { Sides width height },
     pub ghost bytes: { width * height ≤ length gray.now },
+}
+
+impl<'a> LentGray<'a> {
+    // The picture, or refusal 1, 2 or 4, in this order.
+    pub fn checked(self) -> Result<GrayPicture<'a>, Refusal>
+        ensures number { let p = self.entry in number_of result ≡ picture_refusal (length p.gray.now) p.width p.height }
+        ensures picture { let p = self.entry in IfOk result (λ q. (q.gray.now ≡ p.gray.now) × (q.width ≡ p.width) × (q.height ≡ p.height)) }
+    {
+        check_picture(self.gray.len(), self.width, self.height)?;
+        Ok(GrayPicture {
+            gray: self.gray,
+            width: self.width as usize,
+            height: self.height as usize,
+        })
+    }
 }
 
 impl GrayPicture<'_> {

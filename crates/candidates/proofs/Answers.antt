@@ -61,14 +61,18 @@ module _ (bits : List ℕ) (w h : ℕ) where
       let f = answer_table bits w h found e in
       ap Ok (g ∙ ap detections_table (detections_in_lem bits w h (finders_of bits w h) t (k (finders_of bits w h) f.1))) ∙ checked_passed checks table (sym f.0)
 
-  pub search_refused : (answer : Result Detections Refusal) (r : Refusal) → IsErrAnd answer (λ e. e ≡ r) → Err r ≡ answer_of bits w h → answer ≡ detect_answer bits w h
+  -- where the search refuses, so do they; r, which the code hands on, is found by what refuses
+  pub search_refused : (r : Refusal) → Err r ≡ answer_of bits w h → (answer : Result Detections Refusal) → IsErrAnd answer (λ e. e ≡ r) → answer ≡ detect_answer bits w h
   unfolding detect_answer find_refusal
-  search_refused answer r i e = refused_by answer r i checks table (answer_refusal bits w h r e)
+  search_refused r e answer i = refused_by answer r i checks table (answer_refusal bits w h r e)
+
+  pub search_refused_with : (r : Refusal) → Err r ≡ answer_of bits w h → Err r ≡ detect_answer bits w h
+  search_refused_with r e = search_refused r e (Err r) refl
 
   -- the first of them
-  pub first_refused : (answer : Result (Option Detection) Refusal) (r : Refusal) → IsErrAnd answer (λ e. e ≡ r) → Err r ≡ detect_answer bits w h → answer ≡ detect_first bits w h
+  pub first_refused : (r : Refusal) → Err r ≡ detect_answer bits w h → (answer : Result (Option Detection) Refusal) → IsErrAnd answer (λ e. e ≡ r) → answer ≡ detect_first bits w h
   unfolding detect_answer detect_first
-  first_refused answer r i e = refused_by answer r i checks one (ap number_of e ∙ number_checked checks table)
+  first_refused r e answer i = refused_by answer r i checks one (ap number_of e ∙ number_checked checks table)
 
   -- the table that is answered
   answered : (t : Detections) → Ok t ≡ detect_answer bits w h → (0 ≡ find_refusal bits w h) × (t ≡ detections_table (detections_of bits w h (finders_of bits w h)))

@@ -86,6 +86,7 @@ fn build_with(bits: LentBits<'_>, c: Corners, score: f32, v: Version) -> Option<
 }
 
 // The detection of three ordered finders with a triple's score, or none.
+#[tactic(auto, using(crate::proofs::Building::of_version, crate::proofs::Building::of_none))]
 fn build_detection(bits: LentBits<'_>, c: Corners, score: f32) -> Option<Detection>
     ensures { let p = bits.entry in result ≡ build_of p.bits.now p.width p.height c score }
 {
@@ -150,6 +151,7 @@ fn built_triples(bits: LentBits<'_>, t: Eight) -> Detections
 }
 
 // The detections of a table's finders in a lent picture: refusals 1, 2, 4.
+#[tactic(auto, using(lcr_core::proofs::Answers::refused_by, lcr_core::proofs::Answers::checked_passed), unfolding(crate::specs::Candidates::from_answer, binary::specs::Refusal::bits_refusal))]
 pub fn candidates_in(bits: LentBits<'_>, t: Eight) -> Result<Detections, Refusal>
     ensures { let p = bits.entry in result ≡ from_answer p.bits.now p.width p.height (in_use t) }
 {
@@ -158,6 +160,7 @@ pub fn candidates_in(bits: LentBits<'_>, t: Eight) -> Result<Detections, Refusal
 }
 
 // The first eight finders of a search.
+#[tactic(auto, using(crate::proofs::Tables::first_eight_is))]
 pub fn eight_in(t: Finders) -> Eight
     ensures { (fs : List Finder) → t ≡ finders_table fs → result ≡ eight_of fs }
 {
@@ -165,6 +168,7 @@ pub fn eight_in(t: Finders) -> Eight
 }
 
 // The detections of a picture: refusals 1, 2, 4, and 6 where it has too many finders.
+#[tactic(auto, using(crate::proofs::Answers::searched, crate::proofs::Answers::search_refused, crate::proofs::Answers::search_refused_with))]
 pub fn detect_candidates(bits: LentBits<'_>) -> Result<Detections, Refusal>
     ensures { let p = bits.entry in result ≡ detect_answer p.bits.now p.width p.height }
 {
@@ -173,6 +177,7 @@ pub fn detect_candidates(bits: LentBits<'_>) -> Result<Detections, Refusal>
 }
 
 // The first detection of a picture, if there is one.
+#[tactic(auto, using(crate::proofs::Answers::first_found, crate::proofs::Answers::first_refused))]
 pub fn detect(bits: LentBits<'_>) -> Result<Option<Detection>, Refusal>
     ensures { let p = bits.entry in result ≡ detect_first p.bits.now p.width p.height }
 {

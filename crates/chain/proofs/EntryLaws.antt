@@ -1,6 +1,7 @@
 -- What the firmware's entry answers and leaves, from its check and from the chain. Assumes nothing.
 use mathlib.Core.Path.{◌≡◌, sym, ◌∙◌, ap}
-use mathlib.Core.List.{List}
+use mathlib.Core.Bool.{Bool, true, false, cond}
+use mathlib.Core.List.{List, [], ◌∷◌}
 use Prim.Native.Nat.{ℕ, ◌≤◌}
 use native.Mathlib.Omega.{arith}
 use lib.Dec.{ltb}
@@ -8,7 +9,7 @@ use lib.ListN.{length}
 use borrow.Author.Tests.{ltb-false}
 use Rattle.std.specs.Prelude.{Result, Ok}
 use Rattle.lists.specs.Lists.{Each}
-use Rattle.lcr_core.specs.Outcome.{number_of, first_of}
+use Rattle.lcr_core.specs.Outcome.{Check, refusal_number, number_of, first_of}
 use Rattle.lcr_core.specs.declared.Refusal.{Refusal}
 use Rattle.lcr_core.specs.Answer.{behind}
 use Rattle.lcr_core.proofs.Checks.{first_passes, part_passes, passed_first}
@@ -27,6 +28,19 @@ use Rattle.chain.proofs.Theorems.{detection_bytes_lem}
 -- none of its checks gives 6
 pub entry_others : (p : Picture) (r : Room) (room : ℕ) → Each Other (entry_checks p r room)
 entry_others p r room = ((λ e. omega arith), ((λ e. omega arith), ((λ e. omega arith), ((λ e. omega arith), ((λ e. omega arith), ((λ e. omega arith), tt))))))
+
+-- where no check's number is over 5, that of the first that refuses is not
+first_most : (cs : List Check) → Each (λ (c : Check). refusal_number c.refusal ≤ 5) cs → first_of cs ≤ 5
+first_most [] e = omega arith
+first_most (c ∷ cs) e = go c.refuses (first_most cs e.1)
+  where
+    go : (b : Bool) → first_of cs ≤ 5 → cond b (refusal_number c.refusal) (first_of cs) ≤ 5
+    go true h = e.0
+    go false h = h
+
+-- before a byte is written the entry refuses by 1 to 5
+pub five_at_most : (p : Picture) (r : Room) (room : ℕ) → first_of (entry_checks p r room) ≤ 5
+five_at_most p r room = first_most (entry_checks p r room) (omega arith, (omega arith, (omega arith, (omega arith, (omega arith, (omega arith, tt))))))
 
 -- ---- where they pass
 module _ (p : Picture) (r : Room) (room : ℕ) (z : 0 ≡ first_of (entry_checks p r room)) where

@@ -29,7 +29,7 @@ use Rattle.candidates.proofs.Lenses.{none-plain, detect_plain}
 use Rattle.candidates.proofs.Published.{uncut_detect}
 use Rattle.firmware.specs.Firmware.{firmware_bytes, firmware_size}
 use Rattle.firmware.proofs.Theorems.{answer_bytes}
-use Rattle.stages.specs.Stages.{Room, stages_refusal}
+use Rattle.stages.specs.Stages.{Room, refusal_of, stages_refusal}
 use Rattle.stages.specs.Pictures.{Picture, denoised_picture}
 use Rattle.stages.proofs.Theorems.{length_denoised}
 use Rattle.chain.specs.Chain.{chain_of}
@@ -41,18 +41,26 @@ module _ (p : Picture) where
   abbrev h : ℕ
   h = p.height
 
-  -- the search of the denoised bits refuses with nothing else
-  pub search_six : (r : Room) → stages_refusal p r ≡ 0 → find_refusal (denoised_picture p) w h ≡ cond (is_over (found (denoised_picture p) w h)) 6 0
-  unfolding stages_refusal find_refusal short_bits
-  search_six r e =
+  -- where nothing is refused of so many bytes, the picture's own or not, the search of the denoised bits refuses with nothing else
+  pub search_six : (len : ℕ) (r : Room) → refusal_of len w h p.stride p.format r ≡ 0 → find_refusal (denoised_picture p) w h ≡ cond (is_over (found (denoised_picture p) w h)) 6 0
+  unfolding refusal_of find_refusal short_bits
+  search_six len r e =
       let p1 = first_passes (zero_side w h) 0 _ e in
       let p2 = first_passes (large_side w h) 1 _ p1.1 in
       let k : ltb (length (denoised_picture p)) (bytes_of (w * h)) ≡ false = le-ltb (length (denoised_picture p)) (bytes_of (w * h)) (omega (arith, length_denoised p)) in
       simp (p1.0, p2.0, k)
 
-  pub six_is_left : (r : Room) → stages_refusal p r ≡ 0 → number_of (chain_of p) ≡ cond (is_over (found (denoised_picture p) w h)) 6 0
+  pub six_is_left : (len : ℕ) (r : Room) → refusal_of len w h p.stride p.format r ≡ 0 → number_of (chain_of p) ≡ cond (is_over (found (denoised_picture p) w h)) 6 0
   unfolding chain_of
-  six_is_left r e = detect_number (denoised_picture p) w h ∙ search_six r e
+  six_is_left len r e = detect_number (denoised_picture p) w h ∙ search_six len r e
+
+  -- of its own bytes
+  pub of_its_bytes : (r : Room) → stages_refusal p r ≡ 0 → refusal_of (length p.bytes) w h p.stride p.format r ≡ 0
+  unfolding stages_refusal refusal_of
+  of_its_bytes r e = e
+
+  pub six_then : (r : Room) → stages_refusal p r ≡ 0 → number_of (chain_of p) ≡ cond (is_over (found (denoised_picture p) w h)) 6 0
+  six_then r e = six_is_left (length p.bytes) r (of_its_bytes r e)
 
   pub detection_bytes_lem : length (firmware_bytes (table_in (chain_of p))) ≡ firmware_size
   unfolding chain_of

@@ -11,17 +11,32 @@ ghost use Rattle.denoise.specs.Window.{behind_pad, majority_of, chosen_at, pad_o
 
 use binary::picture::LentBits;
 use binary::refusal::short_bits;
-use lcr_core::Refusal;
+use lcr_core::{Refusal, check_sides};
 
-// What denoising refuses, with `room` bytes for the result.
-pub fn check_denoised(bits: LentBits<'_>, room: usize) -> Result<(), Refusal>
-    ensures { let p = bits.entry in number_of result ≡ denoised_refusal (length p.bits.now) p.width p.height room }
+// What denoising refuses of `len` bytes of bits, with `room` bytes for the result.
+pub fn check_denoised_lengths(
+    len: usize,
+    width: u32,
+    height: u32,
+    room: usize,
+) -> Result<(), Refusal>
+    ensures { number_of result ≡ denoised_refusal len width height room }
 {
-    bits.checked()?;
-    if short_bits(room, bits.width, bits.height) {
+    check_sides(width, height)?;
+    if short_bits(len, width, height) {
+        return Err(Refusal::ShortPicture);
+    }
+    if short_bits(room, width, height) {
         return Err(Refusal::ShortOutput);
     }
     Ok(())
+}
+
+// What it refuses of bits that are lent.
+pub fn check_denoised(bits: LentBits<'_>, room: usize) -> Result<(), Refusal>
+    ensures { let p = bits.entry in number_of result ≡ denoised_refusal (length p.bits.now) p.width p.height room }
+{
+    check_denoised_lengths(bits.bits.len(), bits.width, bits.height, room)
 }
 
 // Three bytes, of which the pixels after the tenth from pixel `first` on are cut off.

@@ -20,7 +20,7 @@ use Rattle.candidates.specs.declared.Detections.{Detections}
 use Rattle.candidates.specs.Candidates.{detections_table, table_in}
 use Rattle.firmware.specs.Firmware.{firmware_bytes}
 use Rattle.chain.specs.Chain.{chain_of, entry_checks, detections_after}
-use Rattle.chain.proofs.Theorems.{six_is_left}
+use Rattle.chain.proofs.Theorems.{six_then}
 use Rattle.chain.proofs.EntryLaws.{entry_others}
 use Rattle.exposure.specs.Exposure.{as_gray8, Fix, EntryFix, fix_of, entry_fix_of}
 
@@ -59,7 +59,7 @@ module _ (p : List ℕ) (w h s : ℕ) (gray bits denoised : List ℕ) (work : Li
   left_written : refused ≡ 0 → (cs : List Check) → first_of cs ≡ 0 → (new old : List ℕ) → left_after (number_of (by cs)) new old ≡ written new old
   unfolding left_after
   left_written y cs z new old =
-      let n = six_is_left g room y in
+      let n = six_then g room y in
       sym (left_done 0 (number_of (by cs)) _ refl (ap number_of (answer_done cs z) ∙ n) (written new old) new old refl)
 
   -- one refuses

@@ -19,7 +19,7 @@ use Rattle.denoise.specs.Denoise.{denoised_at}
 use Rattle.binarize.specs.Binarize.{is_dark}
 use Rattle.binarize.proofs.Brighter.{dark_more}
 use Rattle.binarize.proofs.Unmarked.{none_dark}
-use Rattle.stages.specs.Stages.{Room, stages_refusal}
+use Rattle.stages.specs.Stages.{Room, refusal_of}
 use Rattle.stages.specs.Pictures.{gray_picture, bit_picture, denoised_picture, edge_marks, near_marks}
 use Rattle.std.specs.Prelude.{Ok}
 use Rattle.lcr_core.proofs.Answers.{checked_passed}
@@ -94,9 +94,9 @@ module _ (p : List ℕ) (w h s : ℕ) where
       each_tabulate (λ b. b ≡ 0) (bytes_of (w * h)) (byte_of d) (light_byte d (light_denoised (bit_picture (as_gray8 p w h s)) w h (unmarked_bits u)))
 
   -- and nothing is found
-  pub unmarked_answer : (r : Room) → stages_refusal (as_gray8 p w h s) r ≡ 0 → Unmarked p w h s → chain_of (as_gray8 p w h s) ≡ Ok (detections_table [])
+  pub unmarked_answer : (len : ℕ) (r : Room) → refusal_of len w h s (as_gray8 p w h s).format r ≡ 0 → Unmarked p w h s → chain_of (as_gray8 p w h s) ≡ Ok (detections_table [])
   unfolding chain_of detect_answer find_refusal
-  unmarked_answer r z u =
+  unmarked_answer len r z u =
       let d = denoised_picture (as_gray8 p w h s) in
-      let n : find_refusal d w h ≡ 0 = sym (detect_number d w h) ∙ six_is_left (as_gray8 p w h s) r z ∙ rw (none_found d w h (unmarked_denoised u)) in
+      let n : find_refusal d w h ≡ 0 = sym (detect_number d w h) ∙ six_is_left (as_gray8 p w h s) len r z ∙ rw (none_found d w h (unmarked_denoised u)) in
       sym (checked_passed (find_checks (length d) w h (found d w h)) (detections_table (detections_of d w h (finders_of d w h))) (sym n)) ∙ ap (λ (ds : List Detection). Ok (detections_table ds)) (no_detection d w h (unmarked_denoised u))

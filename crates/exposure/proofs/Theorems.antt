@@ -18,6 +18,7 @@ use Rattle.gray.specs.Gray.{unknown_format, short_picture}
 use Rattle.stages.specs.Stages.{Room, room_of, stages_refusal}
 use Rattle.stages.specs.Pictures.{bit_picture}
 use Rattle.exposure.specs.Exposure.{as_gray8, brighter, NoneAbove, darker, NoneBelow, Brighter, SameFix, Unmarked, Blank}
+use Rattle.chain.proofs.Theorems.{of_its_bytes}
 use Rattle.exposure.proofs.Calls.{denoised_same, chain_same, same_fix}
 use Rattle.exposure.proofs.Pictures.{bits_same, unmarked_bits, unmarked_denoised, unmarked_answer}
 
@@ -99,7 +100,7 @@ module _ (w h s : ℕ) (gray bits denoised : List ℕ) (work : List (List ℕ)) 
   blank p q z e u =
       let dark = unmarked_bits p w h s u in
       let noise = unmarked_denoised p w h s u in
-      let found = unmarked_answer p w h s (room_of gray bits denoised work) z u in (
+      let found = unmarked_answer p w h s (length p) (room_of gray bits denoised work) (of_its_bytes (as_gray8 p w h s) (room_of gray bits denoised work) z) u in (
         record { bits = dark; denoised = noise; answer = found },
         record { bits = rw e dark; denoised = rw (denoised_same p q w h s e) noise; answer = chain_same p q w h s e ∙ found },
       )

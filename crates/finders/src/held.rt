@@ -1,5 +1,6 @@
 // The table of finders found so far.
 ghost use Rattle.std.specs.Prelude.{◌≡◌, ◌+◌, ◌-◌, ◌^◌, ◌<◌, position};
+ghost use Rattle.std.specs.Result.{IfErr};
 ghost use Rattle.finders.specs.Held.{within, join, merge};
 ghost use Rattle.finders.specs.Search.{max_finders};
 ghost use Rattle.finders.specs.Answer.{held_in};
@@ -47,10 +48,11 @@ impl Finders {
         self.as_slice().iter().position(|f| is_within(*f, p))
     }
 
-    // One more confirmed hit, or refusal 6.
-    pub fn merge(&mut self, p: Point, module: f32) -> Result<(), Refusal>
+    // One more confirmed hit, or refusal 6, and then the table is as it was.
+    pub(crate) fn merge(&mut self, p: Point, module: f32) -> Result<(), Refusal>
         requires { Good self.old (2 ^ 32 - 2) }
-        ensures { EndsWith (merge max_finders (held_in self.old) (record { x = p.x; y = p.y; «module» = «module» })) result self.new }
+        ensures kept { IfErr result (λ _. self.new ≡ self.old) }
+        ensures ends { EndsWith (merge max_finders (held_in self.old) (record { x = p.x; y = p.y; «module» = «module» })) result self.new }
     {
         if let Some(i) = self.first_within(p) {
             self.table[i] = joined(self.table[i], p, module);

@@ -3,6 +3,8 @@
 // cases were run and how many answers differ, and before that each line that differs with the answer given here.
 #![tactic(auto)]
 
+ghost use Rattle.std.specs.Prelude.{◌<◌};
+
 use float::Float;
 
 #[derive(Drop)]
@@ -11,10 +13,21 @@ struct Tally {
     wrong: u64,
 }
 
-// The number that the hexadecimal digits are, 0 where they are none.
+// A hexadecimal digit; of another byte, what its low bits make of it.
+fn digit(c: u8) -> u64
+    ensures { result < 16 }
+{
+    let d = u64::from(c % 16);
+    if c < b'a' { d } else { d % 7 + 9 }
+}
+
+// The number that sixteen hexadecimal digits are. Any bytes make one, so that a spoiled line is one that differs.
 fn hex(digits: &[u8]) -> u64 {
-    let text = str::from_utf8(digits).unwrap_or("");
-    u64::from_str_radix(text, 16).unwrap_or(0)
+    let mut n: u64 = 0;
+    for c in digits {
+        n = n % 0x1000_0000_0000_0000 * 16 + digit(*c);
+    }
+    n
 }
 
 // The f32 whose pattern is the input's upper or lower half.

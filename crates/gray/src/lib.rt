@@ -24,37 +24,65 @@ pub struct LentPixels<'a> {
 
 // Whether the stride or the picture's bytes are too few.
 #[tactic(auto, unfolding(crate::specs::Gray::short_picture))]
-fn short_picture(pixels: LentPixels<'_>, channels: usize) -> bool
-    requires { (0 < pixels.height) × (pixels.height ≤ 4096) × (channels ≤ 255) }
-    ensures { let p = pixels.entry in result ≡ short_picture (length p.«data».now) p.width p.height p.stride channels }
+fn short_picture(len: usize, width: u32, height: u32, stride: u32, channels: usize) -> bool
+    requires { (0 < height) × (height ≤ 4096) × (channels ≤ 255) }
+    ensures { result ≡ short_picture len width height stride channels }
 {
-    let stride = pixels.stride as usize;
-    let row = pixels.width as usize * channels;
-    stride < row || pixels.data.len() < (pixels.height as usize - 1) * stride + row
+    let stride = stride as usize;
+    let row = width as usize * channels;
+    stride < row || len < (height as usize - 1) * stride + row
 }
 
-// The format of a picture, or what gray conversion refuses of it, with `room` bytes for the result.
-fn checked_format(pixels: LentPixels<'_>, room: usize) -> Result<PixelFormat, Refusal>
-    ensures number { let p = pixels.entry in number_of result ≡ gray_refusal (length p.«data».now) p.width p.height p.stride p.format room }
-    ensures format { IfOk result (λ known. channels_of known ≡ pixels.entry.format) }
+// The format of a picture of `len` bytes, or what gray conversion refuses of it, with `room` bytes for the result.
+fn checked_format(
+    len: usize,
+    width: u32,
+    height: u32,
+    stride: u32,
+    format: u8,
+    room: usize,
+) -> Result<PixelFormat, Refusal>
+    ensures number { number_of result ≡ gray_refusal len width height stride format room }
+    ensures format { IfOk result (λ known. channels_of known ≡ format) }
 {
-    check_sides(pixels.width, pixels.height)?;
-    let known = PixelFormat::try_from(pixels.format)?;
-    if short_picture(pixels, known.channels()) {
+    check_sides(width, height)?;
+    let known = PixelFormat::try_from(format)?;
+    if short_picture(len, width, height, stride, known.channels()) {
         return Err(Refusal::ShortPicture);
     }
-    if room < pixels.width as usize * pixels.height as usize {
+    if room < width as usize * height as usize {
         return Err(Refusal::ShortOutput);
     }
     Ok(known)
 }
 
-// What gray conversion refuses, with `room` bytes for the result.
+// What gray conversion refuses of `len` bytes, with `room` bytes for the result.
+pub fn check_gray_lengths(
+    len: usize,
+    width: u32,
+    height: u32,
+    stride: u32,
+    format: u8,
+    room: usize,
+) -> Result<(), Refusal>
+    ensures { number_of result ≡ gray_refusal len width height stride format room }
+{
+    checked_format(len, width, height, stride, format, room)?;
+    Ok(())
+}
+
+// What it refuses of pixels that are lent.
 pub fn check_gray(pixels: LentPixels<'_>, room: usize) -> Result<(), Refusal>
     ensures { let p = pixels.entry in number_of result ≡ gray_refusal (length p.«data».now) p.width p.height p.stride p.format room }
 {
-    checked_format(pixels, room)?;
-    Ok(())
+    check_gray_lengths(
+        pixels.data.len(),
+        pixels.width,
+        pixels.height,
+        pixels.stride,
+        pixels.format,
+        room,
+    )
 }
 
 // The gray value of a colour, to the nearest.
@@ -124,7 +152,14 @@ pub fn gray_buffer(pixels: LentPixels<'_>, gray: &mut [u8]) -> Result<(), Refusa
     ensures number { let p = pixels.entry in number_of result ≡ gray_refusal (length p.«data».now) p.width p.height p.stride p.format (length gray.old) }
     ensures written { let p = pixels.entry in gray.new ≡ gray_written p.«data».now p.width p.height p.stride p.format gray.old }
 {
-    let known = checked_format(pixels, gray.len())?;
+    let known = checked_format(
+        pixels.data.len(),
+        pixels.width,
+        pixels.height,
+        pixels.stride,
+        pixels.format,
+        gray.len(),
+    )?;
     gray_rows(pixels, known, gray);
     Ok(())
 }

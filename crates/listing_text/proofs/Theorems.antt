@@ -30,7 +30,7 @@ use Rattle.candidates.specs.Candidates.{detections_of, detections_table, detect_
 use Rattle.candidates.proofs.Answers.{detect_number}
 use Rattle.stages.specs.Pictures.{as_picture, gray_picture, bit_picture, denoised_picture}
 use Rattle.chain.specs.Chain.{chain_of}
-use Rattle.chain.proofs.Theorems.{six_is_left}
+use Rattle.chain.proofs.Theorems.{six_then}
 use Rattle.listing_text.specs.Inner.{found_text}
 use Rattle.listing_text.specs.Listing.{width_of, height_of, gray_bytes, max_pixels, listing_refusal, refused_line, list_text, answer_text, chain_text, listing_of}
 use Rattle.listing_text.proofs.Refusals.{passed, slices_room, stages_pass}
@@ -64,7 +64,7 @@ module _ (l : List ℕ) (z : listing_refusal l ≡ 0) where
       let w = width_of l in
       let h = height_of l in
       let p = gray_bytes l in
-      six_is_left (as_picture p w h w 1) slices_room (stages_pass w h p (passed l z).1)
+      six_then (as_picture p w h w 1) slices_room (stages_pass w h p (passed l z).1)
 
   search_refuses : find_refusal (bits_of l) (width_of l) (height_of l) ≡ cond (full_table l) 6 0
   unfolding chain_of

@@ -24,7 +24,7 @@ use Rattle.stages.specs.Pictures.{Picture, denoised_picture, left_after}
 use Rattle.stages.proofs.Closed.{Other}
 use Rattle.stages.proofs.Theorems.{denoised_first}
 use Rattle.stored.specs.Stored.{stored_bytes, size_of, many_finders, short_output, write_refusal}
-use Rattle.chain.proofs.Theorems.{search_six}
+use Rattle.chain.proofs.Theorems.{of_its_bytes, search_six}
 use Rattle.preview.specs.Limit.{Limit, preview_limit, limited_checks}
 use Rattle.preview.specs.Preview.{preview_of, short_list, preview_entry_checks, list_after}
 use Rattle.preview.proofs.Limits.{taken, all_others}
@@ -46,7 +46,7 @@ module _ (p : Picture) where
     pub preview_number : stages_refusal p r ≡ 0
         → number_of (preview_of p) ≡ cond (is_over (found (denoised_picture p) w h)) 6 0
     unfolding preview_of
-    preview_number e = answer_number (denoised_picture p) w h ∙ search_six p r e
+    preview_number e = answer_number (denoised_picture p) w h ∙ search_six p (length p.bytes) r (of_its_bytes p r e)
 
     -- ---- the stored list, where the checks of an entry with a limit pass, and that of the list's slice behind them
     module _ (l : Limit) (room : ℕ) where

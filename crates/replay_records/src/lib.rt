@@ -13,7 +13,7 @@ pub mod values;
 pub const ANSWER: usize = 1 + 2 + 16 * finders::MAX_FINDERS + 8 * 12;
 
 // The most bytes of its line: two digits for each byte, and a line feed.
-const LINE: usize = 2 * ANSWER + 1;
+pub const LINE: usize = 2 * ANSWER + 1;
 
 // A record that was read: its function's number, 0 where the payload is too short for it, and the payload's length.
 #[derive(Clone, Copy)]
@@ -131,41 +131,57 @@ fn spell(out: &[u8; ANSWER], n: usize, text: &mut [u8]) -> usize
     2 * n + 1
 }
 
-// The line that answers a call by the first n bytes of out, or as many as there are: `-` for none.
+// The line that answers a call by the first n bytes of out, or as many as there are, at the front of text: `-` for none. How many bytes these are.
+pub fn put_line(out: &[u8; ANSWER], n: usize, text: &mut [u8; LINE]) -> usize
+    ensures line { text.new ≡ put (answer_line n out.now) 0 text.old }
+    ensures len { result ≡ length (answer_line n out.now) }
+{
+    if n == 0 {
+        text[0] = b'-';
+        text[1] = b'\n';
+        return 2;
+    }
+    spell(out, n.min(ANSWER), text)
+}
+
+// The same line by itself.
 pub fn answer_line(out: &[u8; ANSWER], n: usize) -> Line
     ensures { result ≡ line_of (answer_line n out.now) }
 {
     let mut text = [0u8; LINE];
-    if n == 0 {
-        text[0] = b'-';
-        text[1] = b'\n';
-        return Line { text, len: 2 };
-    }
-    let len = spell(out, n.min(ANSWER), &mut text);
+    let len = put_line(out, n, &mut text);
     Line { text, len }
 }
 
 // What a replay program answers: to a function's number and a payload, the bytes of the answer, and how many they are: none for a function that it does not
-// know.
+// know. Which bytes and how many is the program's to say (docs/REPLAY.md): whatever they are, `put_line` spells them.
 pub trait Answers {
-    fn answer(function: u8, payload: &[u8], out: &mut [u8]) -> usize;
+    fn answer(function: u8, payload: &[u8], out: &mut [u8]) -> usize
+        ensures { length out.new ≡ length out.old };
 }
 
-// Reads a record and prints its answer; false where the input ends, or the line cannot be written.
-fn step<A: Answers>(payload: &mut [u8; slices::LONGEST]) -> bool {
+// Reads a record and prints its answer; false where the input ends, or the line cannot be written. An answer's bytes are 0 before it is given.
+fn step<A: Answers>(
+    payload: &mut [u8; slices::LONGEST],
+    out: &mut [u8; ANSWER],
+    text: &mut [u8; LINE],
+) -> bool {
     let Some(c) = read(payload) else {
         return false;
     };
-    let mut out = [0u8; ANSWER];
-    let n = A::answer(c.function, slices::front(payload, c.len), &mut out);
-    io::write_all(1, answer_line(&out, n).as_slice())
+    out.fill(0);
+    let n = A::answer(c.function, slices::front(payload, c.len), out);
+    let len = put_line(out, n, text);
+    io::write_all(1, slices::front(text, len))
 }
 
 // Runs the calls of standard input, up to four thousand million, and prints a line for each.
 pub fn run<A: Answers>() {
     let mut payload = [0u8; slices::LONGEST];
+    let mut out = [0u8; ANSWER];
+    let mut text = [0u8; LINE];
     for _ in 0..4_000_000_000u32 {
-        if !step::<A>(&mut payload) {
+        if !step::<A>(&mut payload, &mut out, &mut text) {
             return;
         }
     }

@@ -95,14 +95,15 @@ impl<'a> Search<'a> {
     {
         let pixels = self.picture.column(x);
         let limit = column_limit(self.module);
-        let up = pixels.limited_back(y, limit, true).count;
-        let down = pixels.limited_on(y + 1, limit, true).count;
+        let up = pixels.run_back(y, limit.min(y as u64) as u16, true);
+        let below = y + 1;
+        let down = pixels.run_on(below, limit.min((pixels.len - below) as u64) as u16, true);
         let top = y - up;
-        let next = y + 1 + down;
+        let next = below + down;
         Runs {
-            before: pixels.limited_back(top, limit, false).count,
+            before: pixels.run_back(top, limit.min(top as u64) as u16, false),
             dark: up + down + 1,
-            after: pixels.limited_on(next, limit, false).count,
+            after: pixels.run_on(next, limit.min((pixels.len - next) as u64) as u16, false),
             start: top,
         }
     }

@@ -2,21 +2,21 @@
 use mathlib.Core.Path.{◌≡◌, refl, sym, ap, ◌∙◌}
 use mathlib.Core.Bool.{Bool, true, false, cond}
 use mathlib.Core.List.{List, [], ◌∷◌, ◌++◌}
-use Prim.Native.Nat.{ℕ, ◌*◌}
+use Prim.Native.Nat.{ℕ, ◌*◌, ◌≤◌}
 use native.Mathlib.Omega.{arith}
-use lib.ListN.{take, drop}
+use lib.ListN.{length, take, drop}
 use lib.Seq.{take_at}
 use borrow.Author.Tests.{ne_eqb}
 use Rattle.lists.specs.Lists.{Each, tabulate, filled}
 use Rattle.lists.proofs.Tabulate.{length-tabulate, filled_same}
-use Rattle.lcr_core.specs.Outcome.{Check, refusal_number, first_of}
+use Rattle.lcr_core.specs.Outcome.{Check, refusal_number, first_of, zero_side, large_side}
 use Rattle.binary.specs.Binary.{byte_of, bytes_of}
-use Rattle.gray.specs.Gray.{gray_at}
+use Rattle.gray.specs.Gray.{unknown_format, short_picture, gray_at}
 use Rattle.denoise.specs.Denoise.{denoised_at}
 use Rattle.blocks.specs.Blocks.{blocks_in, mean_at, least_at, greatest_at, edge_at, near_at}
 use Rattle.binarize.specs.Binarize.{is_dark}
 use Rattle.stages.specs.declared.Slices.{Slices}
-use Rattle.stages.specs.Stages.{Room, stages_checks}
+use Rattle.stages.specs.Stages.{Room, short_room, refusal_of, stages_checks, stages_refusal}
 use Rattle.stages.specs.Pictures.{Picture, gray_picture, bit_picture, denoised_picture}
 use Rattle.stages.specs.Pictures.{block_means, block_least, block_greatest, edge_marks, near_marks, left_after}
 use Rattle.stages.specs.Lent.{LeftAfter}
@@ -99,6 +99,25 @@ module _ (p : Picture) where
           r ∙ filled_same n (byte_of (denoised_at bits w h)) (byte_of (denoised_at (take n bits) w h)) before (λ j l. sym (byte_tail bits w h j l))
           ∙ ap (λ (b : List ℕ). filled n (byte_of (denoised_at b w h)) before) bits_first
           ∙ left_filled n (byte_of (denoised_at (bit_picture p) w h)) before
+
+-- ---- the stages refuse by 1 to 5
+cond_most : (b : Bool) (x y n : ℕ) → x ≤ n → y ≤ n → cond b x y ≤ n
+cond_most true x y n l m = l
+cond_most false x y n l m = m
+
+-- by the lengths alone
+pub at_most_five : (len w h s f : ℕ) (r : Room) → refusal_of len w h s f r ≤ 5
+unfolding refusal_of
+at_most_five len w h s f r =
+    cond_most (zero_side w h) 1 _ 5 (omega arith)
+    (cond_most (large_side w h) 2 _ 5 (omega arith)
+    (cond_most (unknown_format f) 3 _ 5 (omega arith)
+    (cond_most (short_picture len w h s f) 4 _ 5 (omega arith) (cond_most (short_room w h r) 5 0 5 (omega arith) (omega arith)))))
+
+-- and for a picture
+pub stages_at_most_five : (p : Picture) (r : Room) → stages_refusal p r ≤ 5
+unfolding stages_refusal refusal_of
+stages_at_most_five p r = at_most_five (length p.bytes) p.width p.height p.stride p.format r
 
 -- ---- after a refusal other than 6 all is as it was
 -- a check that does not give 6

@@ -23,15 +23,22 @@ room_of gray bits denoised work = record { gray = length gray; bits = length bit
 unfoldable pub short_room : ℕ → ℕ → Room → Bool
 short_room w h r = ltb r.gray (w * h) || ltb r.bits (bytes_of (w * h)) || ltb r.denoised (bytes_of (w * h)) || under (blocks_in w h) r.work
 
--- what is refused of a picture, with so much room: 1, 2, 3, 4, 5, in this order
-abbrev pub stages_checks : Picture → Room → List Check
-stages_checks p r =
-    side_checks p.width p.height
-    ++ (record { refuses = unknown_format p.format; refusal = UnknownFormat }
-    ∷ record { refuses = short_picture (length p.bytes) p.width p.height p.stride p.format; refusal = ShortPicture }
-    ∷ record { refuses = short_room p.width p.height r; refusal = ShortOutput }
+-- what is refused of len bytes of w × h pixels, in rows of s bytes and with format byte f, with so much room: 1, 2, 3, 4, 5, in this order
+abbrev pub checks_of : ℕ → ℕ → ℕ → ℕ → ℕ → Room → List Check
+checks_of len w h s f r =
+    side_checks w h
+    ++ (record { refuses = unknown_format f; refusal = UnknownFormat }
+    ∷ record { refuses = short_picture len w h s f; refusal = ShortPicture }
+    ∷ record { refuses = short_room w h r; refusal = ShortOutput }
     ∷ [])
 
 -- the number of the first that refuses
+unfoldable pub refusal_of : ℕ → ℕ → ℕ → ℕ → ℕ → Room → ℕ
+refusal_of len w h s f r = first_of (checks_of len w h s f r)
+
+-- the same of a picture
+abbrev pub stages_checks : Picture → Room → List Check
+stages_checks p r = checks_of (length p.bytes) p.width p.height p.stride p.format r
+
 unfoldable pub stages_refusal : Picture → Room → ℕ
 stages_refusal p r = first_of (stages_checks p r)

@@ -3,7 +3,7 @@
 
 ghost use Rattle.std.specs.Prelude.{◌≡◌};
 ghost use Rattle.lcr_core.specs.Outcome.{number_of};
-ghost use Rattle.stages.specs.Stages.{stages_refusal};
+ghost use Rattle.stages.specs.Stages.{stages_refusal, refusal_of};
 ghost use Rattle.stages.specs.Lent.{picture_in, room_in, LeftAfter, SameSlices};
 
 use binary::picture::LentBits;
@@ -22,23 +22,42 @@ pub struct Slices<'a, 'b> {
     pub blocks: &'a mut Blocks<'b>,
 }
 
-// What `stages` refuses.
+// What `stages` refuses of `len` picture bytes, with so many bytes for gray values, bits and denoised bits, and work slices of these lengths, in the order of
+// `Blocks`.
+pub fn check_stages_lengths(
+    len: usize,
+    width: u32,
+    height: u32,
+    stride: u32,
+    format: u8,
+    gray: usize,
+    bits: usize,
+    denoised: usize,
+    work: [usize; 5],
+) -> Result<(), Refusal>
+    ensures { number_of result ≡ refusal_of len width height stride format (record { gray = gray; bits = bits; denoised = denoised; work = work }) }
+{
+    gray::check_gray_lengths(len, width, height, stride, format, gray)?;
+    binarize::check_binarize_lengths(gray, width, height, bits, work)?;
+    denoise::check_denoised_lengths(bits, width, height, denoised)
+}
+
+// What it refuses of a picture and slices that are lent.
+#[tactic(auto, unfolding(crate::specs::Stages::stages_refusal, crate::specs::Stages::refusal_of))]
 pub fn check_stages(pixels: LentPixels<'_>, slices: &Slices<'_, '_>) -> Result<(), Refusal>
     ensures { number_of result ≡ stages_refusal (picture_in pixels.entry) (room_in slices.now) }
 {
-    gray::check_gray(pixels, slices.gray.len())?;
-    let gray = LentGray {
-        gray: slices.gray,
-        width: pixels.width,
-        height: pixels.height,
-    };
-    binarize::check_binarize(gray, slices.blocks, slices.bits.len())?;
-    let bits = LentBits {
-        bits: slices.bits,
-        width: pixels.width,
-        height: pixels.height,
-    };
-    denoise::check_denoised(bits, slices.denoised.len())
+    check_stages_lengths(
+        pixels.data.len(),
+        pixels.width,
+        pixels.height,
+        pixels.stride,
+        pixels.format,
+        slices.gray.len(),
+        slices.bits.len(),
+        slices.denoised.len(),
+        slices.blocks.lengths(),
+    )
 }
 
 // The stages of a picture that passed the checks, so that none of them refuses it.

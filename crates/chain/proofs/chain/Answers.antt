@@ -6,7 +6,7 @@ use Rattle.stages.specs.Stages.{stages_checks, stages_refusal}
 use Rattle.stages.specs.Lent.{picture_in, room_in}
 use Rattle.stages.proofs.Closed.{all_left_done}
 use Rattle.chain.proofs.Chained.{chained}
-use Rattle.chain.proofs.Theorems.{six_is_left}
+use Rattle.chain.proofs.Theorems.{six_then}
 use Rattle.chain.proofs.chain.Goals as goal
 
 pub returns-in_err-stages-clause-answer : goal.returns-in_err-stages-clause-answer
@@ -26,4 +26,4 @@ returns-clause-left c =
     let p = picture_in c.args.pixels in
     let e = c.in_ok-stages.ensures in
     let a = chained 0 p refl _ _ e.left.denoised _ c.detect_candidates.ensures in
-    all_left_done 0 _ _ refl (ap number_of a ∙ six_is_left p (room_in c.args.slices.now) (sym e.refusal)) p _ _ e.left
+    all_left_done 0 _ _ refl (ap number_of a ∙ six_then p (room_in c.args.slices.now) (sym e.refusal)) p _ _ e.left

@@ -39,13 +39,13 @@ fit c =
     shifted_lt c.args.a c.sig-m.result c.expo.result (z_of c.before) c.sig-m.ensures c.expo.ensures l.0 l.1 l.2 l.3 (short c.before)
 
 exact : (c : After-isqrt-r) → IsRoot (c.sig-m.result * 2 ^ zs c.before) c.isqrt-r.result
-exact c =
-    let n = c.sig-m.result * 2 ^ zs c.before in
-    let e : n % 2 ^ 64 ≡ n = mod-eq_of_lt (lt_of_lt_of_le (fit c.before) (lit≤ tt)) in
-    (rw e at c.isqrt-r.ensures.square_le, rw e at c.isqrt-r.ensures.next_square_gt)
+exact c = rw (mod-eq_of_lt (lt_of_lt_of_le (fit c.before) (lit≤ tt))) at c.isqrt-r.ensures
 
 pub overflow_sub-z : goal.overflow_sub-z
 overflow_sub-z c = (lead c).4
+
+pub isqrt-r-requires : goal.isqrt-r-requires
+isqrt-r-requires c = rw (mod-eq_of_lt (lt_of_lt_of_le (fit c) (lit≤ tt))) (fit c)
 
 pub returns : goal.returns
 returns c =
