@@ -21,7 +21,7 @@ fn digit(c: u8) -> u64
     if c < b'a' { d } else { d % 7 + 9 }
 }
 
-// The number that sixteen hexadecimal digits are. Any bytes make one, so that a spoiled line is one that differs.
+// The number that sixteen hexadecimal digits are. Any bytes make one.
 fn hex(digits: &[u8]) -> u64 {
     let mut n: u64 = 0;
     for c in digits {
