@@ -2,6 +2,7 @@ pub mod Windows
 pub mod Places
 pub mod Folding
 pub mod Tables
+pub mod Settled
 pub mod Axes
 pub mod Overs
 pub mod Ranks

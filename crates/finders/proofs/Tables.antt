@@ -1,5 +1,6 @@
 -- The held finders as the code has them, in a table. Assumes nothing.
 use Rattle.std.proofs.Common.{◌≡◌, ℕ, suc, ◌+◌, ◌-◌, ◌<◌, ◌≤◌, Bool, true, false, cond, leb, List, [], ◌∷◌, ◌++◌, length, get_or, set, replicate, sym, refl, ap, ◌∙◌, subst, arith, length-append, length-set, leb-true}
+use lib.Ieee.{nan}
 use lib.Seq.{set-append_left}
 use Rattle.std.specs.Prelude.{Result, Ok, Err, IsErrAnd, Some, None, position}
 use Rattle.std.proofs.lemmas.List.Quantifiers.{position-Some}
@@ -37,6 +38,10 @@ module _ (t : Finders) (w : t ≡ finders_table (held_in t)) where
 
 pub same_table : (n m : ℕ) (t u : List Finder) → n ≡ m → t ≡ u → ◌≡◌ {A = Finders} (record { count = n; table = t }) (record { count = m; table = u })
 same_table n m t u p q = rw (p, q)
+
+-- what a read past the end gives
+abbrev pub past : Finder
+past = record { x = nan; y = nan; «module» = nan; confirmations = 0 }
 
 -- ---- a hit in a table
 module _ (t : Finders) (k : ℕ) (g : Good t k) (s : Sighting) where

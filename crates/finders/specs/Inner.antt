@@ -1,7 +1,7 @@
--- For inner contracts and proofs. The search as the code has it.
-use Rattle.std.specs.Prelude.{◌≡◌, ℕ, zero, suc, ◌+◌, ◌-◌, ◌*◌, ◌/◌, ◌<◌, ◌≤◌, Bool, true, false, cond, List, [], ◌∷◌, length, nat_lt, Option, Some, None, Result, MatchResult}
+-- For inner contracts and proofs, but for `Bounded` and `EndsWith`, which the contract of `Finders::merge` has. The search as the code has it.
+use Rattle.std.specs.Prelude.{◌≡◌, ℕ, zero, suc, ◌+◌, ◌-◌, ◌*◌, ◌/◌, ◌^◌, ◌<◌, ◌≤◌, Bool, true, false, cond, List, [], ◌∷◌, length, nat_lt, Option, Some, None, Result, MatchResult}
 use Rattle.std.specs.Bool.{⊤}
-use Rattle.std.specs.List.{position_or_len}
+use Rattle.std.specs.List.{list_all, position_or_len}
 use Rattle.lists.specs.Lists.{Each, range, folded, flat_map, written}
 use Rattle.lcr_core.specs.Outcome.{max_side}
 use Rattle.lcr_core.specs.declared.Refusal.{Refusal}
@@ -26,6 +26,10 @@ EndsWith s r t = MatchResult r (λ _. (t ≡ finders_table (held_in t)) × (s �
 -- no finder has more than k confirmations
 abbrev pub Bounded : List Finder → ℕ → Type 0
 Bounded fs k = Each (λ (f : Finder). f.confirmations ≤ k) fs
+
+-- whether each finder can be confirmed once more: a count is a u32
+abbrev pub is_countable : List Finder → Bool
+is_countable fs = list_all (λ (f : Finder). nat_lt f.confirmations (2 ^ 32 - 1)) fs
 
 -- a table that a hit can be merged into: zero beyond its count, no finder with more than k confirmations
 pub record Good (t : Finders) (k : ℕ) : Type 0 where

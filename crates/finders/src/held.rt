@@ -1,12 +1,13 @@
 // The table of finders found so far.
-ghost use Rattle.std.specs.Prelude.{◌≡◌, ◌+◌, ◌-◌, ◌^◌, ◌<◌, position};
+ghost use Rattle.std.specs.Prelude.{◌≡◌, ◌+◌, ◌-◌, ◌^◌, ◌<◌, ◌≤◌, Err, position};
 ghost use Rattle.std.specs.Result.{IfErr};
+ghost use Rattle.lcr_core.specs.declared.Refusal.TheVariants.{FullTable};
 ghost use Rattle.finders.specs.Held.{within, join, merge};
 ghost use Rattle.finders.specs.Search.{max_finders};
-ghost use Rattle.finders.specs.Answer.{held_in};
-ghost use Rattle.finders.specs.Inner.{EndsWith, Good};
+ghost use Rattle.finders.specs.Answer.{finders_table, held_in};
+ghost use Rattle.finders.specs.Inner.{EndsWith, Bounded, Good, is_countable};
 
-use crate::{Finders, MAX_FINDERS};
+use crate::{Finders, MAX_FINDERS, no_finders};
 use float::Float;
 use lcr_core::Refusal;
 use lcr_core::finder::Finder;
@@ -48,8 +49,8 @@ impl Finders {
         self.as_slice().iter().position(|f| is_within(*f, p))
     }
 
-    // One more confirmed hit, or refusal 6, and then the table is as it was.
-    pub(crate) fn merge(&mut self, p: Point, module: f32) -> Result<(), Refusal>
+    // One more confirmed hit in the table of a search, or refusal 6, and then the table is as it was.
+    pub(crate) fn merge_held(&mut self, p: Point, module: f32) -> Result<(), Refusal>
         requires { Good self.old (2 ^ 32 - 2) }
         ensures kept { IfErr result (λ _. self.new ≡ self.old) }
         ensures ends { EndsWith (merge max_finders (held_in self.old) (record { x = p.x; y = p.y; «module» = «module» })) result self.new }
@@ -69,5 +70,41 @@ impl Finders {
             return Ok(());
         }
         Err(Refusal::FullTable)
+    }
+
+    // The same finders in a table as a search has it: no count over the places, zero beyond it.
+    pub(crate) fn settled(&self) -> Finders
+        ensures value { result ≡ finders_table (held_in self.now) }
+        ensures few { result.count ≤ max_finders }
+    {
+        let held = self.as_slice();
+        let mut t = no_finders();
+        for i in 0..held.len() {
+            t.table[i] = held[i];
+            t.count = i + 1;
+        }
+        t
+    }
+
+    // Whether each finder can be confirmed once more.
+    fn is_countable(&self) -> bool
+        ensures { result ≡ is_countable (held_in self.now) }
+    {
+        self.as_slice().iter().all(|f| f.confirmations < u32::MAX)
+    }
+
+    // One more confirmed hit in any table. Refusal 6 where a place is missing for it, or a finder can't be confirmed once more; then the table is as it was.
+    pub fn merge(&mut self, p: Point, module: f32) -> Result<(), Refusal>
+        ensures kept { IfErr result (λ _. self.new ≡ self.old) }
+        ensures ends { Bounded (held_in self.old) (2 ^ 32 - 2) → EndsWith (merge max_finders (held_in self.old) (record { x = p.x; y = p.y; «module» = «module» })) result self.new }
+        ensures counts { (Bounded (held_in self.old) (2 ^ 32 - 2) → ⊥) → result ≡ Err FullTable }
+    {
+        if !self.is_countable() {
+            return Err(Refusal::FullTable);
+        }
+        let mut t = self.settled();
+        t.merge_held(p, module)?;
+        *self = t;
+        Ok(())
     }
 }

@@ -54,6 +54,56 @@ pub fn find_finders(bits: LentBits<'_>) -> Result<Finders, Refusal>
     let mut held = no_finders();
     scan_axis(picture, false, &mut held)?;
     scan_axis(picture, true, &mut held)?;
-    held.rank();
+    held.rank_held();
     Ok(held)
+}
+
+#[cfg(test)]
+mod tests {
+    use super::*;
+    use lcr_core::point::Point;
+
+    // So many hits at x, 8, of module 4.
+    fn hits(t: &mut Finders, x: f32, n: u32) -> Result<(), Refusal> {
+        for _ in 0..n {
+            t.merge(Point { x, y: 8.0 }, 4.0)?;
+        }
+        Ok(())
+    }
+
+    #[test]
+    fn merges_and_ranks(rt: HostRuntime) {
+        let mut t = no_finders();
+        assert!(rt; hits(&mut t, 10.0, 2).is_ok());
+        assert!(rt; hits(&mut t, 50.0, 3).is_ok());
+        assert!(rt; hits(&mut t, 90.0, 1).is_ok());
+        assert_eq!(rt; t.count, 3);
+        t.rank();
+        assert_eq!(rt; t.count, 2);
+        assert_eq!(rt; (t.table[0].x, t.table[0].confirmations), (50.0, 3));
+        assert_eq!(rt; (t.table[1].x, t.table[1].confirmations), (10.0, 2));
+        assert_eq!(rt; (t.table[2].x, t.table[2].confirmations), (0.0, 0));
+    }
+
+    // Tables that no search leaves.
+    #[test]
+    fn takes_any_table(rt: HostRuntime) {
+        let mut t = no_finders();
+        t.count = 5000;
+        t.table[999].confirmations = 7;
+        assert!(rt; hits(&mut t, 90.0, 1).is_err());
+        assert_eq!(rt; t.count, 5000);
+        t.rank();
+        assert_eq!(rt;
+            (
+                t.count,
+                t.table[0].confirmations,
+                t.table[999].confirmations
+            ),
+            (1, 7, 0)
+        );
+        t.table[0].confirmations = u32::MAX;
+        assert!(rt; hits(&mut t, 90.0, 1).is_err());
+        assert_eq!(rt; (t.count, t.table[0].confirmations), (1, u32::MAX));
+    }
 }

@@ -127,7 +127,7 @@ fn scan_line(
         at: first,
     };
     while let Some(s) = next_sighting(picture, columns, number, w) {
-        t.merge(s.point, s.module)?;
+        t.merge_held(s.point, s.module)?;
         w = s.after;
     }
     Ok(())

@@ -1,5 +1,5 @@
 -- Parts of records as they are read, and of answers as they are written, one after the other. Assumes nothing.
-use Rattle.std.proofs.Common.{◌≡◌, ℕ, zero, suc, ◌+◌, ◌-◌, ◌*◌, ◌/◌, ◌%◌, ◌^◌, ◌<◌, ◌≤◌, min, Bool, true, false, cond, eqb, List, [], ◌∷◌, ◌++◌, length, get_or, take, drop, set, sym, refl, ap, ◌∙◌, append-nil, add-zero, add-one, arith, length-append, ◌⊎◌, inl, inr}
+use Rattle.std.proofs.Common.{◌≡◌, ℕ, zero, suc, ◌+◌, ◌-◌, ◌*◌, ◌/◌, ◌%◌, ◌^◌, ◌<◌, ◌≤◌, min, Bool, true, false, cond, eqb, List, [], ◌∷◌, ◌++◌, length, get_or, take, drop, set, replicate, sym, refl, ap, ◌∙◌, append-nil, add-zero, add-one, arith, length-append, ◌⊎◌, inl, inr}
 use Rattle.std.proofs.lemmas.Bool.{cases_lt}
 use Rattle.std.proofs.lemmas.List.{get_or-drop, get_or-take}
 use Rattle.std.proofs.Math.Nat.{pow-le-pow_right}
@@ -19,7 +19,7 @@ use Rattle.finders.specs.Search.{max_finders}
 use Rattle.candidates.specs.declared.Detection.{Detection}
 use Rattle.firmware.specs.Firmware.{finder_bytes, transform_bytes}
 use Rattle.firmware.proofs.Bytes.{length_double, length_finder, length_transform}
-use Rattle.replay_records.specs.Record.{double_at, read_finder, finders_at, point_bytes, lens_bytes, grade_bytes, digit_of, byte_digits, digits_line, most_bytes, answer_line}
+use Rattle.replay_records.specs.Record.{double_at, read_finder, finders_at, point_bytes, lens_bytes, grade_bytes, digit_of, byte_digits, digits_line, most_bytes, line_room, answer_line, line_of}
 
 -- ---- numbers
 
@@ -158,6 +158,11 @@ pub length_line : (n : ℕ) (out : List ℕ) → length (digits_line n out) ≡ 
 length_line n out = length-append (flat_map byte_digits (tabulate n (λ i. get_or out i 0))) (10 ∷ []) ∙ ap (λ z. z + 1) (length_spelled (λ i. get_or out i 0) n)
 
 -- m of the bytes asked for
-pub some_line : (n m : ℕ) (out : List ℕ) → eqb n 0 ≡ false → m ≡ min n most_bytes → digits_line m out ≡ answer_line n out
+pub some_bytes : (n m : ℕ) (out : List ℕ) → eqb n 0 ≡ false → m ≡ min n most_bytes → digits_line m out ≡ answer_line n out
 unfolding answer_line
-some_line n m out h e = rw (h, e)
+some_bytes n m out h e = rw (h, e)
+
+-- and the line that holds them
+pub some_line : (n m : ℕ) (out text : List ℕ) (len : ℕ) → eqb n 0 ≡ false → m ≡ min n most_bytes
+    → text ≡ put (digits_line m out) 0 (replicate line_room 0) → len ≡ 2 * m + 1 → record { text = text; len = len } ≡ line_of (answer_line n out)
+some_line n m out text len h e t l = rw (← some_bytes n m out h e, t, l, length_line m out)

@@ -156,8 +156,14 @@ pub fn answer_line(out: &[u8; ANSWER], n: usize) -> Line
 // What a replay program answers: to a function's number and a payload, the bytes of the answer, and how many they are: none for a function that it does not
 // know. Which bytes and how many is the program's to say (docs/REPLAY.md): whatever they are, `put_line` spells them.
 pub trait Answers {
-    fn answer(function: u8, payload: &[u8], out: &mut [u8]) -> usize
-        ensures { length out.new ≡ length out.old };
+    fn answer(function: u8, payload: &[u8], out: &mut [u8]) -> usize;
+
+    // What holds of each: the slice keeps its length.
+    final fn answered(function: u8, payload: &[u8], out: &mut [u8]) -> usize
+        ensures { length out.new ≡ length out.old }
+    {
+        Self::answer(function, payload, out)
+    }
 }
 
 // Reads a record and prints its answer; false where the input ends, or the line cannot be written. An answer's bytes are 0 before it is given.
@@ -170,7 +176,7 @@ fn step<A: Answers>(
         return false;
     };
     out.fill(0);
-    let n = A::answer(c.function, slices::front(payload, c.len), out);
+    let n = A::answered(c.function, slices::front(payload, c.len), out);
     let len = put_line(out, n, text);
     io::write_all(1, slices::front(text, len))
 }
@@ -184,5 +190,35 @@ pub fn run<A: Answers>() {
         if !step::<A>(&mut payload, &mut out, &mut text) {
             return;
         }
+    }
+}
+
+#[cfg(test)]
+mod tests {
+    use super::*;
+
+    struct Ones;
+
+    // With a clause of its own, which says nothing of the slice's length.
+    impl Answers for Ones {
+        fn answer(function: u8, payload: &[u8], out: &mut [u8]) -> usize
+            ensures { result ≤ 1 }
+        {
+            out.fill(1);
+            if function == 7 && payload.len() < 3 {
+                1
+            } else {
+                0
+            }
+        }
+    }
+
+    #[test]
+    fn answers(rt: HostRuntime) {
+        let mut out = [0u8; ANSWER];
+        assert_eq!(rt; Ones::answer(7, &[5, 6], &mut out), 1);
+        assert_eq!(rt; Ones::answer(8, &[5, 6], &mut out[..2]), 0);
+        assert_eq!(rt; Ones::answered(7, &[5, 6], &mut out), 1);
+        assert_eq!(rt; out[ANSWER - 1], 1);
     }
 }

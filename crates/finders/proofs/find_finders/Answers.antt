@@ -43,4 +43,4 @@ returns c =
     let p = c.in_ok-picture.picture in
     let r = c.in_ok-scan_axis.ensures in
     let e = c.in_ok-scan_axis-2.ensures in
-    ranked_is p.bits.now p.width p.height (passed o) _ _ (all_held _ _ _ (sides o) _ c.no_finders-held.ensures _ r.0 r.1 _ e.0 e.1) c.rank.ensures ∙ same o
+    ranked_is p.bits.now p.width p.height (passed o) _ _ (all_held _ _ _ (sides o) _ c.no_finders-held.ensures _ r.0 r.1 _ e.0 e.1) c.rank_held.ensures ∙ same o

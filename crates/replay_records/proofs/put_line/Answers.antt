@@ -3,7 +3,7 @@ use Rattle.std.proofs.Common.{◌≡◌, List, ℕ, ne_eqb, ap, ◌∙◌, sym}
 use lib.ListN.{length}
 use Rattle.little_endian.specs.Bytes.{put}
 use Rattle.replay_records.specs.Record.{digits_line, answer_line}
-use Rattle.replay_records.proofs.Parts.{dash_line, length_line, some_line}
+use Rattle.replay_records.proofs.Parts.{dash_line, length_line, some_bytes}
 use Rattle.replay_records.proofs.put_line.Goals.{After-spell}
 use Rattle.replay_records.proofs.put_line.Goals as goal
 
@@ -15,7 +15,7 @@ pub returns-then-n-eq0-clause-len : goal.returns-then-n-eq0-clause-len
 returns-then-n-eq0-clause-len c = ap length (dash_line c.args.n c.args.out.now c.if-n-eq0.true)
 
 line : (c : After-spell) → digits_line c.min.result c.args.out.now ≡ answer_line c.args.n c.args.out.now
-line c = some_line c.args.n c.min.result c.args.out.now (ne_eqb c.args.n 0 c.if-n-eq0.false) c.min.ensures
+line c = some_bytes c.args.n c.min.result c.args.out.now (ne_eqb c.args.n 0 c.if-n-eq0.false) c.min.ensures
 
 pub returns-clause-line : goal.returns-clause-line
 returns-clause-line c = c.spell.ensures.line ∙ ap (λ (l : List ℕ). put l 0 c.args.text.now) (line (goal.at.returns-clause-line c).After-spell)

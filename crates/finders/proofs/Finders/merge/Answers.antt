@@ -1,13 +1,15 @@
 -- `finders::Finders::merge` meets its contract. Assumes nothing.
-use Rattle.std.proofs.Common.{refl, sym, ◌∙◌, arith}
-use Rattle.finders.proofs.Tables.{merged_at, merged_new, merged_over}
+use Rattle.std.proofs.Common.{sym, ◌∙◌}
+use Rattle.finders.proofs.Settled.{settled_good, countable, uncountable}
 use Rattle.finders.proofs.Finders.merge.Goals as goal
 
-pub returns-in-Some-clause-ends : goal.returns-in-Some-clause-ends
-returns-in-Some-clause-ends c = merged_at _ _ c.requires _ _ _ _ (sym c.first_within.ensures ∙ c.in-Some.is) c.joined.ensures
+pub returns-then-not-is_countable-clause-ends : goal.returns-then-not-is_countable-clause-ends
+returns-then-not-is_countable-clause-ends c = λ b. absurd (uncountable _ (sym c.is_countable.ensures ∙ c.if-not-is_countable.true) b)
 
-pub returns-then-self-lt-MAX_FINDERS-clause-ends : goal.returns-then-self-lt-MAX_FINDERS-clause-ends
-returns-then-self-lt-MAX_FINDERS-clause-ends c = merged_new _ _ c.requires _ (sym c.first_within.ensures ∙ c.in_default.is) (omega (arith, c.if-self-lt-MAX_FINDERS.true))
+pub merge_held-requires : goal.merge_held-requires
+merge_held-requires c =
+    let e = c.settled-t.ensures in
+    settled_good _ _ e.value e.few (countable _ (sym c.is_countable.ensures ∙ c.if-not-is_countable.false))
 
-pub returns-clause-ends : goal.returns-clause-ends
-returns-clause-ends c = (merged_over _ _ c.requires _ (sym c.first_within.ensures ∙ c.in_default.is) (omega (arith, c.if-self-lt-MAX_FINDERS.false)), refl)
+pub returns-clause-counts : goal.returns-clause-counts
+returns-clause-counts c = λ n. absurd (n (countable _ (sym c.is_countable.ensures ∙ c.if-not-is_countable.false)))

@@ -21,19 +21,19 @@ loop-s-init c =
       left = ap (λ z. folded (merge_next max_finders) (held (held_in a.t.now)) (flat_map (seen p.bits.now p.width p.height a.columns a.number) z)) (remaining_start _ _ _ (rw (l.pixels, l.len) at r.run));
     }
 
-pub merge-requires : goal.merge-requires
-merge-requires c = good_mono _ _ _ (omega (arith, c.loop-s.invariant.fits.0, line_short c.requires.sides c.args.columns)) c.loop-s.invariant.good
+pub merge_held-requires : goal.merge_held-requires
+merge_held-requires c = good_mono _ _ _ (omega (arith, c.loop-s.invariant.fits.0, line_short c.requires.sides c.args.columns)) c.loop-s.invariant.good
 
-pub returns-in_err-merge : goal.returns-in_err-merge
+pub returns-in_err-merge_held : goal.returns-in_err-merge_held
 unfolding folded
-returns-in_err-merge c =
+returns-in_err-merge_held c =
     let a = c.args in
     let l = c.loop-s in
     let s = c.in-Some.s in
     let g = merge_next max_finders in
     let rest = sightings_after a.picture.bits.now a.picture.width a.picture.height a.columns a.number s.after in
-    let e = c.in_err-merge.ensures.ends in
-    ends_error _ c.in_err-merge.field-0.0 _ _ c.from_residual.ensures.1 e.1
+    let e = c.in_err-merge_held.ensures.ends in
+    ends_error _ c.in_err-merge_held.field-0.0 _ _ c.from_residual.ensures.1 e.1
     (l.invariant.left ∙ ap (folded g (held (held_in l.t))) c.in-Some.ensures.0 ∙ ap (λ z. folded g z rest) e.0 ∙ over_stays max_finders rest)
 
 pub loop-s-preserved : goal.loop-s-preserved
@@ -45,7 +45,7 @@ loop-s-preserved c =
     let s = c.in-Some.s in
     let h : Sighting = record { x = s.point.x; y = s.point.y; «module» = s.module } in
     let g = merge_next max_finders in
-    let e = c.in_ok-merge.ensures.ends in
+    let e = c.in_ok-merge_held.ensures.ends in
     let k = 2 ^ 32 - 2 - max_side + l.w.at in record {
       fits = m.2;
       good = good_of _ _ _ e.0 e.1 (fine_mono (merge max_finders (held_in l.t) h) (k + 1) _ (omega (arith, m.1)) (next_fine (held (held_in l.t)) h k (good_fine l.t k l.invariant.good)));
